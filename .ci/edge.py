@@ -1,6 +1,8 @@
 #!/usr/bin/env python3
 """Tries the built program at the edges that no clause speaks of: closed descriptors, two processes on one journal, files that must not be made, a
-journal that can only be read, the folder of a new journal, what it costs to read a large value, to check a large source, and to hear a body in pieces.
+journal that can only be read, the folder of a new journal, syncs that fail, paths that can't be used, a limit on a file's size, a clock that is set
+back, names that are looked up, services that keep connections open or stream on; what it costs to read a large value, to check a large source, to hear
+a body in pieces, and to make many calls.
 
 Nothing here rests on time. Every process ends by itself or is ended by its own handle.
 """
@@ -13,6 +15,9 @@ import shutil
 import subprocess
 import sys
 import tempfile
+import threading
+
+from service import Service, wait_for_close
 
 PROGRAM = os.path.abspath(sys.argv[1] if len(sys.argv) > 1 else "crates/workflow/out/workflow")
 ANSWERS = os.path.abspath("crates/http_cases/out/http_cases")
@@ -20,6 +25,8 @@ SOURCE = b'[{"a":{"assign":[{"t":"${sys.now()}"}]}},{"b":{"return":"${t}"}}]'
 SEVEN = b'[{"a":{"return":7}}]'
 ROUNDS = 60
 LONGEST = 131_072
+SLEEP = b'[{"a":{"call":"sys.sleep","args":{"seconds":1}}},{"b":{"return":7}}]'
+CALLS, DESCRIPTORS = 3000, 64
 REPORTS = (("show",), ("at", "--turn", "1"), ("log",))
 MOST_INSTRUCTIONS = 3_000_000_000
 NOBODY = 65534
@@ -164,6 +171,180 @@ def synced_folder(folder):
     assert call(folder, "resume", "--journal", "inner/j")[:2] == (0, b"7\n")
 
 
+def traced(folder, calls, *words, inject=None):
+    """Runs the program under strace, and returns its status, what it printed and complained of, and those of these calls that it made."""
+    shell = ["strace", "-y", "-o", "trace", "-e", f"trace={calls}", *(["-e", f"inject={inject}"] if inject else []), PROGRAM, *words]
+    ended = subprocess.run(shell, cwd=folder, stdin=subprocess.DEVNULL, stdout=subprocess.PIPE, stderr=subprocess.PIPE, timeout=60)
+    return (ended.returncode, ended.stdout, ended.stderr), read(folder, "trace").decode(errors="replace").splitlines()
+
+
+def failed_sync(folder):
+    """Behind a sync that failed the system may take pages for written that aren't. So `run` and `resume` write a byte of each page of a journal that
+    they find, before they sync it; what only tells writes nothing. The journal stays as it reads. By what the system was asked, where strace is there."""
+    if not shutil.which("strace"):
+        print("edge: strace isn't there, so what follows a failed sync isn't looked at")
+        return
+    write(folder, "s.json", json.dumps([{"a": {"assign": [{"t": "x" * 30_000}]}}, {"b": {"return": 7}}]).encode())
+    run = ("run", "--source", "s.json", "--journal", "j")
+    said, _ = traced(folder, "fsync", *run, inject="fsync:error=EIO:when=5")
+    assert said == (9, b"", b"workflow: cannot read, write or sync j\n"), said
+    before = read(folder, "j")
+    assert len(before) > 30_000
+    for words in ((*words, "--journal", "j") for words in REPORTS):
+        said, calls = traced(folder, "fsync,pwrite64,write", *words)
+        assert said[0] in (0, 6) and not any("/j>" in it and "write" in it for it in calls), (said, calls)
+    for words in (("resume", "--journal", "j"), run):
+        said, calls = traced(folder, "fsync,pwrite64", *words)
+        assert said in ((0, b"7\n", b""), (6, b"not started\n", b""), (5, b"already started\n", b"")), said
+        first = next(at for at, it in enumerate(calls) if it.startswith("fsync"))
+        anew = [int(re.search(r", 1, (\d+)\) += 1$", it).group(1)) for it in calls[:first]]
+        assert "/j>" in calls[first] and anew == list(range(0, len(before), 4096)), calls[: first + 1]
+        before = read(folder, "j")
+    assert call(folder, "resume", "--journal", "j")[:2] == (0, b"7\n")
+
+
+def bad_paths(folder):
+    """A journal that can't be used is left alone, and a line on standard error tells why; a new journal is its owner's alone."""
+    write(folder, "s.json", SEVEN)
+    run = ("run", "--source", "s.json", "--journal")
+    os.mkdir(f"{folder}/folder")
+    os.symlink("nowhere/j", f"{folder}/loose")
+    os.symlink("round", f"{folder}/round")
+    os.mkdir(f"{folder}/shut", 0o555)
+    rows = [
+        ("no_such_folder/j", b"workflow: there is no folder for no_such_folder/j\n"),
+        ("s.json/j", b"workflow: there is no folder for s.json/j\n"),
+        ("folder", b"workflow: folder is a folder\n"),
+        ("loose", b"workflow: loose is a link that leads nowhere\n"),
+        ("round", b"workflow: round is a link that leads nowhere\n"),
+    ]
+    for name, wanted in rows:
+        said = call(folder, *run, name)
+        assert said == (9, b"", wanted), (name, said)
+    assert os.readlink(f"{folder}/loose") == "nowhere/j" and not is_there(folder, "nowhere") and not os.listdir(f"{folder}/folder")
+    shutil.copy(PROGRAM, f"{folder}/program")
+    os.chmod(folder, 0o755)
+    how = {"user": NOBODY} if os.geteuid() == 0 else {}
+    words = [f"{folder}/program", *run, "shut/j"]
+    ended = subprocess.run(words, cwd=folder, stdin=subprocess.DEVNULL, stdout=subprocess.PIPE, stderr=subprocess.PIPE, timeout=60, **how)
+    assert (ended.returncode, ended.stdout, ended.stderr) == (9, b"", b"workflow: no permission to use shut/j\n"), ended
+    if shutil.which("strace"):
+        said, _ = traced(folder, "pwrite64", *run, "full", inject="pwrite64:error=ENOSPC")
+        assert said == (9, b"", b"workflow: no room for full\n"), said
+    assert call(folder, *run, "j", umask=0)[:2] == (0, b"7\n")
+    assert os.stat(f"{folder}/j").st_mode & 0o777 == 0o600
+
+
+def bad_lines(folder):
+    """Behind a line that is none, standard error tells where help is."""
+    for words in ((), ("walk",), ("run", "--journal")):
+        status, printed, said = call(folder, *words)
+        assert status == 2 and printed.startswith(b"bad line at word ") and said == b"workflow: `workflow --help` tells which lines there are\n", said
+    assert call(folder, "--help")[2] == b""
+
+
+def file_limit(folder):
+    """A limit on the size of files ends a run by a signal, or by status 9 where that is ignored; either way the execution goes on without it."""
+    write(folder, "s.json", json.dumps([{"a": {"assign": [{"t": "x" * 30_000}]}}, {"b": {"return": 7}}]).encode())
+    for name, wanted, how in (("j", (-25, b"", b""), {}), ("k", (9, b"", b"workflow: no room for k\n"), {"restore_signals": False})):
+        shell = ["sh", "-c", 'ulimit -f 8; exec "$0" "$@"', PROGRAM, "run", "--source", "s.json", "--journal", name]
+        ended = subprocess.run(shell, cwd=folder, stdin=subprocess.DEVNULL, stdout=subprocess.PIPE, stderr=subprocess.PIPE, timeout=60, **how)
+        assert (ended.returncode, ended.stdout, ended.stderr) == wanted, ended
+        said = call(folder, "resume", "--journal", name)
+        if said[:2] == (6, b"not started\n"):
+            said = call(folder, "run", "--source", "s.json", "--journal", name)
+        assert said == (0, b"7\n", b""), said
+
+
+SET_BACK = b"""
+#define _GNU_SOURCE
+#include <sys/syscall.h>
+#include <time.h>
+#include <unistd.h>
+int clock_gettime(clockid_t clock, struct timespec *time) {
+    static int readings;
+    long answer = syscall(SYS_clock_gettime, clock, time);
+    if (clock == CLOCK_REALTIME && readings++) time->tv_sec -= 3600;
+    return answer;
+}
+"""
+
+
+def clock_set_back(folder):
+    """A sleep of a second ends though the wall clock is set back by an hour behind its first reading, where a C compiler is there."""
+    if not shutil.which("cc"):
+        print("edge: cc isn't there, so a clock that is set back isn't looked at")
+        return
+    write(folder, "back.c", SET_BACK)
+    subprocess.run(["cc", "-shared", "-fPIC", "-o", "back.so", "back.c"], cwd=folder, check=True, timeout=60)
+    write(folder, "s.json", SLEEP)
+    said = call(folder, "run", "--source", "s.json", "--journal", "j", "--waits", "1", env={**os.environ, "LD_PRELOAD": f"{folder}/back.so"})
+    assert said == (0, b"7\n", b""), said
+
+
+def calls_of(count, url):
+    """A source that makes so many calls, and returns the sum of the answers' codes."""
+    steps = [{"get": {"call": "http.get", "args": {"url": url}, "result": "answer"}}, {"add": {"assign": [{"sum": "${sum + answer.code}"}]}}]
+    loop = {"for": {"value": "i", "range": [1, count], "steps": steps}}
+    return json.dumps([{"first": {"assign": [{"sum": 0}]}}, {"all": loop}, {"last": {"return": "${sum}"}}]).encode()
+
+
+def keep_open(request, connection):
+    """Answers a request, and keeps the connection open until the other side closes it."""
+    connection.sendall(b"HTTP/1.1 200 OK\r\nContent-Length: 1\r\n\r\n7")
+    wait_for_close(connection)
+
+
+def many_calls(folder):
+    """A connection is closed once its answer is whole: so thousands of calls need no more descriptors than one, whatever their services keep."""
+    service = Service(keep_open)
+    write(folder, "s.json", calls_of(CALLS, f"http://127.0.0.1:{service.port}/"))
+    shell = ["sh", "-c", f'ulimit -n {DESCRIPTORS}; exec "$0" "$@"', PROGRAM, "run", "--source", "s.json"]
+    ended = subprocess.run(shell, cwd=folder, stdin=subprocess.DEVNULL, stdout=subprocess.PIPE, stderr=subprocess.PIPE, timeout=300)
+    assert (ended.returncode, ended.stdout) == (0, b"%d\n" % (200 * CALLS)), ended
+    assert len(service.settle()) == CALLS
+    service.close()
+
+
+def streaming_on(folder):
+    """What a service streams behind its answer wakes no wait: one is for the answer, and one for the sleep behind it."""
+    ended = threading.Event()
+
+    def stream(request, connection):
+        try:
+            connection.sendall(b"HTTP/1.1 200 OK\r\nContent-Length: 1\r\n\r\n7")
+            while True:
+                connection.sendall(b"x" * 65_536)
+        finally:
+            ended.set()
+
+    service = Service(stream)
+    url = f"http://127.0.0.1:{service.port}/"
+    steps = [{"a": {"call": "http.get", "args": {"url": url}, "result": "r"}}, {"b": {"call": "sys.sleep", "args": {"seconds": 1}}}, {"c": {"return": "${r.code}"}}]
+    write(folder, "s.json", json.dumps(steps).encode())
+    said = call(folder, "run", "--source", "s.json", "--waits", "2")
+    assert said == (0, b"200\n", b""), said
+    assert ended.wait(60), "the connection isn't closed"
+    service.close()
+
+
+def one_lookup(folder):
+    """A host is looked up once, however many calls go to it: by how often the system's list of hosts is opened, where strace is there."""
+    if not shutil.which("strace"):
+        print("edge: strace isn't there, so how often a name is looked up isn't looked at")
+        return
+    service = Service(keep_open)
+    opened = []
+    for count in (1, 5):
+        write(folder, "s.json", calls_of(count, f"http://localhost:{service.port}/"))
+        said, calls = traced(folder, "open,openat", "run", "--source", "s.json")
+        assert said[:2] == (0, b"%d\n" % (200 * count)), said
+        opened.append(sum('"/etc/hosts"' in it for it in calls))
+    assert opened[0] == opened[1] > 0, opened
+    service.settle()
+    service.close()
+
+
 def counted(folder, *words):
     """Runs the program under valgrind, and returns its status with what it printed, and how many instructions it took."""
     shell = ["valgrind", "--tool=callgrind", "--callgrind-out-file=/dev/null", PROGRAM, *words]
@@ -269,8 +450,26 @@ def cost_of_an_answer(folder):
             assert third - second <= 2.2 * (second - first), f"{shape}, from {size} bytes: {first}, {second}, {third} instructions"
 
 
+def cost_of_calls(folder):
+    """A wait costs what is open, not what was ever called: 16 times the calls take at most 20 times the instructions, where valgrind is there."""
+    if not shutil.which("valgrind"):
+        print("edge: valgrind isn't there, so the cost of many calls isn't looked at")
+        return
+    service = Service(keep_open)
+    counts = []
+    for calls in (125, 2000):
+        write(folder, "s.json", calls_of(calls, f"http://127.0.0.1:{service.port}/"))
+        ended, count = counted(folder, "run", "--source", "s.json")
+        assert ended == (0, b"%d\n" % (200 * calls)), ended
+        counts.append(count)
+    service.settle()
+    service.close()
+    assert counts[1] <= 20 * counts[0], f"125 calls take {counts[0]} instructions, 2000 take {counts[1]}"
+
+
 def main():
-    tries = [closed_descriptors, held_journal, two_at_once, no_file_is_made, read_only, synced_folder, large_value, cost_of_a_source, cost_of_an_answer]
+    tries = [closed_descriptors, held_journal, two_at_once, no_file_is_made, read_only, synced_folder, failed_sync, bad_paths, bad_lines, file_limit]
+    tries += [clock_set_back, many_calls, streaming_on, one_lookup, large_value, cost_of_a_source, cost_of_an_answer, cost_of_calls]
     for it in tries:
         with tempfile.TemporaryDirectory() as folder:
             it(folder)

@@ -18,28 +18,33 @@ class Visit:
     def serve(self):
         """Reads a request and answers it. A connection that ends or breaks before that is none's fault: the other side was killed, or has heard
         enough."""
-        with self.connection as connection:
-            try:
-                connection.setsockopt(socket.IPPROTO_TCP, socket.TCP_NODELAY, 1)
+        try:
+            with self.connection, self.opened() as connection:
                 while not is_whole(self.sent):
                     piece = connection.recv(65_536)
                     if not piece:
                         return
                     self.sent += piece
                 self.service.answer(bytes(self.sent), connection)
-            except OSError:
-                return
-            except Exception as fault:
-                self.service.faults.append(repr(fault))
+        except OSError:
+            return
+        except Exception as fault:
+            self.service.faults.append(repr(fault))
+
+    def opened(self):
+        """The connection as it is spoken on."""
+        self.connection.setsockopt(socket.IPPROTO_TCP, socket.TCP_NODELAY, 1)
+        return self.service.tls.wrap_socket(self.connection, server_side=True) if self.service.tls else self.connection
 
 
 class Service:
-    """Listens on a port of 127.0.0.1 that the system chose, until it is closed or the script ends. `answer` is called with each whole request and
-    the connection that it came on, in a thread of its own; the connection is closed behind it."""
+    """Listens on a port of 127.0.0.1, or one that the system chose, until it is closed or the script ends. `answer` is called with each whole
+    request and the connection that it came on, in a thread of its own; the connection is closed behind it. With `tls`, an `ssl.SSLContext`, it
+    speaks TLS."""
 
-    def __init__(self, answer):
-        self.answer, self.visits, self.faults, self.news = answer, [], [], threading.Condition()
-        self.listener = socket.create_server(("127.0.0.1", 0), backlog=128)
+    def __init__(self, answer, port=0, tls=None):
+        self.answer, self.tls, self.visits, self.faults, self.news = answer, tls, [], [], threading.Condition()
+        self.listener = socket.create_server(("127.0.0.1", port), backlog=128)
         self.port = self.listener.getsockname()[1]
         threading.Thread(target=self.accept, daemon=True).start()
 

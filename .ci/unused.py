@@ -1,11 +1,13 @@
 #!/usr/bin/env python3
-"""Checks that each lemma of a crate's proofs/ and each definition of its specs/ is used.
+"""Checks that each lemma of a crate's proofs/, each definition of its specs/ and each public function of a library is used.
 
     python3 .ci/unused.py
 
 Used is what the code names, in a clause, a tactic or a law, what an answer or an invariant names, and what one names that is used. An import alone
-is no use. A block of `module` or `mutual` is used as a whole. Worked examples stand by themselves, in files named Computed. The exit status is 1
-where something isn't used.
+is no use. A block of `module` or `mutual` is used as a whole. Worked examples stand by themselves, in files named Computed.
+
+A public function is used where the program reaches it (functions.py). What only case programs call is named, and stands in EXPECTED with the
+reason why it is there all the same, or goes. The exit status is 1 where something isn't used.
 """
 
 import glob
@@ -13,9 +15,22 @@ import os
 import re
 import sys
 
+from functions import unreached
+
+# public functions, or all those of a type or of a crate, that the program doesn't reach, by the reason why they are there
+EXPECTED = {
+    "for callbacks": ("wf_args::listen_of", "wf_callbacks::Endpoints", "wf_http_serve::reply_bytes", "wf_http_value::visit_value", "wf_visits"),
+    "for parallel steps": ("wf_branches", "wf_moves::Task::branch", "wf_moves::Task::join"),
+    "for snapshots": ("wf_states::state_value",),
+    "hosts and sources in memory, for cases": ("wf_host::Address::is_same", "wf_host::MemHost", "wf_host::MemSource"),
+    "laws that are told of a call": ("wf_ends::run_to_the_end", "wf_format_laws::layout_of", "wf_json_laws::compact", "wf_json_laws::read_again"),
+    "one of what the program does many at once": ("wf_events::encode", "wf_machine::Machine::choose"),
+    "told to who asks": ("wf_ast::Program::step_count", "wf_engine::Engine::waited"),
+}
+
 TOKEN = re.compile(r"[^\s(){}\[\];,«»]+")
 HEAD = re.compile(r"^(?:abbrev |unfoldable |pub |record |data )*([^\s(){}\[\];,.:]+)(?:\s|$)")
-INSIDE = re.compile(r"^\s+(?:abbrev )?(?:pub )?([^\s(){}\[\];,.:]+) :", re.M)
+INSIDE = re.compile(r"^\s+(?:abbrev |unfoldable )?(?:pub )?([^\s(){}\[\];,.:]+) :", re.M)
 LISTED = re.compile(r"use Rattle\.([\w.+-]+?)\.\{([^}]*)\}")
 WHOLE = re.compile(r"use Rattle\.([\w.+-]+?)(?: as ([\w-]+))?(?=[;\n])")
 GIVEN = re.compile(r"^pub use Rattle\.([\w.+-]+?)\.\{([^}]*)\}", re.M)
@@ -102,6 +117,25 @@ class Names:
         return found
 
 
+def idle_functions():
+    """Names the public functions that the program doesn't reach and that aren't expected, and the expected ones that are there no more or are reached."""
+    found, count = unreached()
+    expected = {name for names in EXPECTED.values() for name in names}
+    met = set()
+    idle = 0
+    for function, is_of_cases in found:
+        name = function.whole_name()
+        known = expected & {name, name.rpartition("::")[0], function.crate}
+        met |= known
+        if not known:
+            idle += 1
+            print(f"{function.path}:{function.line}: {'only case programs call' if is_of_cases else 'nothing calls'} {name}")
+    for name in sorted(expected - met):
+        print(f"unused.py expects that the program doesn't reach {name}, but it does, or there is none")
+    print(f"unused: {count} public functions, {len(found)} that the program doesn't reach, {idle} of them unexpected")
+    return idle + len(expected - met)
+
+
 def main():
     paths = [path for end in ("antt", "rt") for path in glob.glob(f"crates/**/*.{end}", recursive=True) if "/out/" not in path]
     texts = {path: without_comments(path, open(path, encoding="utf-8").read()) for path in paths}
@@ -134,7 +168,7 @@ def main():
     for path, name in idle:
         print(f"{path}: nothing uses {name}")
     print(f"unused: {len(found)} lemmas and definitions, {len(idle)} that nothing uses")
-    return 1 if idle else 0
+    return 1 if idle_functions() or idle else 0
 
 
 sys.exit(main())

@@ -51,6 +51,7 @@ const FUNCTIONS: [Func; 31] = [
     Func::SysGetEnv,
 ];
 
+/// The operator of a sign.
 pub(crate) fn operator(text: &str) -> Option<Op> {
     for op in OPERATORS {
         if sign(op) == text {
@@ -60,6 +61,7 @@ pub(crate) fn operator(text: &str) -> Option<Op> {
     None
 }
 
+/// The sign of an operator.
 pub(crate) fn sign(op: Op) -> &'static str {
     match op {
         Op::Add => "+",
@@ -78,6 +80,7 @@ pub(crate) fn sign(op: Op) -> &'static str {
     }
 }
 
+/// The function of a name.
 pub(crate) fn function(text: &str) -> Option<Func> {
     for func in FUNCTIONS {
         if name(func) == text {
@@ -87,6 +90,7 @@ pub(crate) fn function(text: &str) -> Option<Func> {
     None
 }
 
+/// The name of a function.
 pub(crate) fn name(func: Func) -> &'static str {
     match func {
         Func::Default => "default",

@@ -5,8 +5,10 @@ use crate::trees::{DEEPEST, expression, template};
 use std::alloc::Global;
 use wf_ast::{Expr, NamedTemplate, NamedTemplates, Postfix, Template, Templates, compile};
 use wf_cases::{Case, CaseFault};
-use wf_eval::{eval, fill};
+use wf_eval::eval;
 use wf_expr::{parse, parse_template};
+use wf_frames::fill_shape;
+use wf_model::{Codes, shape_of};
 use wf_value::{Map, Text, Value};
 
 /// The clock's reading, where a case has one.
@@ -33,11 +35,13 @@ fn run(alloc: Global, case: &Case<'_>, code: &Postfix) -> Result<String, CaseFau
     outcome(alloc, eval(alloc, code, &names, now))
 }
 
-/// What a template comes to.
+/// What a template comes to: its shape is filled, as the program fills it.
 fn filled(alloc: Global, case: &Case<'_>, t: &Template) -> Result<String, CaseFault> {
     let now = reading(case)?;
     let names = names_of(alloc, case)?;
-    outcome(alloc, fill(alloc, t, &names, now))
+    let mut codes = Codes::new(alloc);
+    let shape = shape_of(alloc, t, &mut codes)?;
+    outcome(alloc, fill_shape(alloc, &shape, codes.items(), &names, now))
 }
 
 /// What an expression comes to.

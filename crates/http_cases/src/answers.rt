@@ -138,14 +138,11 @@ fn told(alloc: Global, reading: Reading, close: Close) -> Result<String, CaseFau
 
 fn response(alloc: Global, head: &Head, body: &[u8]) -> Result<String, CaseFault> {
     let mut text = format!(in alloc; "{}", head.code())?;
-    for i in 0..usize::MAX {
-        let Some((name, value)) = head.field(i) else {
-            break;
-        };
+    for field in head.fields() {
         text.push(' ')?;
-        text.push_str(shown(alloc, name.as_bytes())?.as_str())?;
+        text.push_str(shown(alloc, field.0.as_slice())?.as_str())?;
         text.push('=')?;
-        text.push_str(shown(alloc, value)?.as_str())?;
+        text.push_str(shown(alloc, field.1.as_slice())?.as_str())?;
     }
     text.push_str(" |")?;
     if !body.is_empty() {

@@ -9,6 +9,7 @@ use wf_value::Text;
 /// No source of a table with decimals is deeper.
 const LEVELS: u32 = 20;
 
+/// The tree of a source in JSON, which must have one.
 pub(crate) fn tree_of(alloc: Global, source: &str) -> Result<Tree, CaseFault> {
     match read_json(alloc, source) {
         Ok(tree) => Ok(tree),
@@ -17,6 +18,7 @@ pub(crate) fn tree_of(alloc: Global, source: &str) -> Result<Tree, CaseFault> {
     }
 }
 
+/// The program of a source in JSON, which must be one.
 pub(crate) fn program_of(alloc: Global, source: &str) -> Result<Program, CaseFault> {
     match build(alloc, &tree_of(alloc, source)?) {
         Ok(program) => Ok(program),

@@ -5,17 +5,16 @@
 --     limit_here, below_limit  the limit
 use Rattle.std.proofs.Common.{◌≡◌, ◌<◌, ◌≤◌, ℕ, suc, ◌+◌, ◌-◌, true, false, List, [], None, sym, ◌∙◌, ap, subst, arith, add-one}
 use Rattle.std.specs.Prelude.{if◌then◌else◌, nat_lt}
-use Rattle.std.proofs.lemmas.Bool.{lt-ltb, ltb-true}
-use Rattle.wf_lemmas.proofs.Bools.{false_unless}
+use Rattle.std.proofs.lemmas.Bool.{le-ltb, lt-ltb}
 use Rattle.wf_alone.specs.Laws.{MainMerges}
 use Rattle.wf_alone.specs.Machine as alone
 use Rattle.wf_alone.specs.Machine.{Rest, config_by, main_at, main_local, logged, main_scene, sent}
-use Rattle.wf_alone.specs.Plain.{IsReal}
 use Rattle.wf_ast.specs.Tree.{Program}
 use Rattle.wf_model.specs.Config.{After, Config, Item, Layer, NotNow, Outcome, Raised, Task, To, Wait, Wrong, move_limit}
-use Rattle.wf_model.specs.Local.{Breaks, Creates, Does, Ends, Goes, Local, Logs, Moved, Not, Outer, Scene, Sends, Takes, layers_total}
+use Rattle.wf_model.specs.Local.{Breaks, Does, Ends, Goes, Local, Moved, Not, Outer, Scene, layers_total}
 use Rattle.wf_model.specs.Step.{counted, stopped}
 use Rattle.wf_model.specs.Taken.{by_itself, done, finish, merged, put_outer}
+use Rattle.wf_together.specs.Chosen.{IsReal}
 use Rattle.wf_value.specs.Errors.{error_map}
 use Rattle.wf_value.specs.declared.Tag.TheVariants.{ResourceLimitError}
 
@@ -52,10 +51,7 @@ IsSomewhere NotNow = ⊥
 somewhere : (m : Moved) (c : Config) → IsReal m → IsSomewhere (merged 0 None m c)
 somewhere (Goes l) c real = tt
 somewhere (Ends e l) c real = tt
-somewhere (Does (Sends q due) m) c real = somewhere m (done 0 (Sends q due) c) real
-somewhere (Does (Creates m) n) c real = absurd real
-somewhere (Does (Takes e) n) c real = absurd real
-somewhere (Does (Logs severity v) n) c real = somewhere n (done 0 (Logs severity v) c) real
+somewhere (Does x m) c real = somewhere m (done 0 x c) real
 somewhere (Breaks kind) c real = tt
 somewhere Not c real = absurd real
 
@@ -64,17 +60,13 @@ pub not_nowhere : (m : Moved) (c : Config) → IsReal m → merged 0 None m c �
 not_nowhere m c real is = subst IsSomewhere is (somewhere m c real)
 
 -- ## The limit
--- a number that isn't less
-not_less : (a b : ℕ) → b ≤ a → nat_lt a b ≡ false
-not_less a b le = false_unless (nat_lt a b) (λ is. let less : a < b = ltb-true a b is in omega (arith, less, le))
-
 -- below the limit
 below : (m : ℕ) → m + 1 < 100000 → nat_lt (suc m) move_limit ≡ true
 below m lt = lt-ltb (suc m) move_limit (omega (arith, lt))
 
 -- at the limit
 at_least : (m : ℕ) → 100000 ≤ m + 1 → nat_lt (suc m) move_limit ≡ false
-at_least m le = not_less (suc m) move_limit (omega (arith, le))
+at_least m le = le-ltb (suc m) move_limit (omega (arith, le))
 
 module _ (x : Rest) (tasks : List (ℕ × Task)) (o : Outcome) (f : Config → After) where
   -- with so many counted events

@@ -3,6 +3,6 @@ pub mod Begun
 pub mod Carried
 pub mod Off
 pub mod Reached
-pub mod Real
+pub mod Plain
 pub mod Steps
 pub mod Waiting

@@ -6,7 +6,7 @@ use Rattle.std.proofs.Math.Dec.{eqb-zero-suc}
 use Rattle.std.proofs.lemmas.Bool.{lt-leb}
 use Rattle.std.specs.Prelude.{nat_le, if◌then◌else◌}
 use Rattle.wf_lemmas.proofs.Bools.{and_false}
-use Rattle.wf_alone.proofs.Real.{begins_none}
+use Rattle.wf_alone.proofs.Plain.{begins_none}
 use Rattle.wf_alone.specs.Laws.{OffNever, OtherAnswersNever}
 use Rattle.wf_alone.specs.Machine.{Rest, main_at, main_task, read_by}
 use Rattle.wf_alone.specs.Waiting.{IsOffStep, Matches, call_by, call_of, caller, due_for}

@@ -7,12 +7,12 @@ use Rattle.std.proofs.Common.{◌≡◌, ◌≤◌, ℕ, suc, ◌+◌, Bool, tru
 use Rattle.std.specs.Prelude.{if◌then◌else◌, nat_le, nat_lt}
 use Rattle.std.proofs.lemmas.Bool.{le-leb}
 use Rattle.wf_alone.proofs.Carried.{by_main, not_nowhere}
-use Rattle.wf_alone.proofs.Real.{due_real, real, resumed_real, waits}
+use Rattle.wf_alone.proofs.Plain.{waits}
 use Rattle.wf_alone.proofs.Steps.{step_next}
 use Rattle.wf_alone.proofs.Waiting.{answer_next, asleep, calling, is_due, matches}
 use Rattle.wf_alone.specs.Laws.{AnswersCanCome, DuesCanCome, MainCanStep, MainMatches, ReachedIsSound}
-use Rattle.wf_alone.specs.Machine.{IsReached, Rest, closed, heard, main_at, main_by, main_local, main_scene, passed, read_by, read_for, seen_by, step_by}
-use Rattle.wf_alone.specs.Plain.{ArePlain, CanWake, Moves}
+use Rattle.wf_alone.specs.Machine.{IsReached, Rest, closed, heard, main_at, main_by, main_local, main_scene, passed, read_by, read_for}
+use Rattle.wf_alone.specs.Plain.{ArePlain}
 use Rattle.wf_alone.specs.Waiting.{Matches, call_by, caller, due_for}
 use Rattle.wf_ast.specs.Accept.{Accept, Kind}
 use Rattle.wf_ast.specs.Tree.{Program}
@@ -27,6 +27,9 @@ use Rattle.wf_model.specs.Run.{initial, run_on}
 use Rattle.wf_model.specs.Step.{next, stopped}
 use Rattle.wf_model.specs.Taken.{by_itself, merged}
 use Rattle.wf_model.specs.WaitLaws.{Sound, SoundAtFirst, StepsStaySound}
+use Rattle.wf_together.proofs.Real.{due_real, real, resumed_real}
+use Rattle.wf_together.specs.Chosen.{CanWake, Moves, step_by}
+use Rattle.wf_together.specs.Steps.{seen_by}
 use Rattle.wf_value.specs.Events.{Event, Reply, Start}
 use Rattle.wf_value.specs.HttpText.{reply_length, reply_result}
 use Rattle.wf_value.specs.Errors.{error_map}

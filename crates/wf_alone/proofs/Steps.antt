@@ -6,9 +6,9 @@ use Rattle.std.proofs.Common.{◌≡◌, ◌<◌, ◌≤◌, ℕ, ◌+◌, max, 
 use Rattle.std.proofs.lemmas.Bool.{le-leb}
 use Rattle.std.specs.Prelude.{◌||◌, nat_le, if◌then◌else◌}
 use Rattle.wf_alone.proofs.Carried.{below_limit, by_main, limit_here}
-use Rattle.wf_alone.proofs.Real.{begins_none, waits}
+use Rattle.wf_alone.proofs.Plain.{begins_none, waits}
 use Rattle.wf_alone.specs.Laws.{MainIsBusy, MainIsChosen, MainIsStopped, MainSteps}
-use Rattle.wf_alone.specs.Machine.{Rest, main_at, main_task, one_more, read_by, read_for, seen_by, step_by}
+use Rattle.wf_alone.specs.Machine.{Rest, main_at, main_task, one_more, read_by, read_for}
 use Rattle.wf_ast.specs.Tree.{Program}
 use Rattle.wf_model.specs.Choose.{choose, ready_event, wanted}
 use Rattle.wf_model.specs.Config.{Active, After, Awake, Config, Item, Layer, Task}
@@ -17,6 +17,8 @@ use Rattle.wf_model.specs.Move.{issue, move}
 use Rattle.wf_model.specs.Ready.{begins, stands_waiting}
 use Rattle.wf_model.specs.Step.{counted, next, same_kind, wants, when}
 use Rattle.wf_model.specs.Taken.{by_itself}
+use Rattle.wf_together.specs.Chosen.{step_by}
+use Rattle.wf_together.specs.Steps.{seen_by}
 use Rattle.wf_value.specs.Events.{Event}
 use Rattle.wf_value.specs.HttpUrl.{first_of_two}
 

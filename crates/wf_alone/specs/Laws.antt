@@ -1,8 +1,8 @@
 -- Laws of executions in which `main` is the only task, and its control has no parallel steps. It stands at a control k with layers ls, and is
 -- awake, or waits: for an answer, for the end of a sleep, or for its next try.
 use Rattle.std.specs.Prelude.{◌≡◌, ◌<◌, ◌≤◌, ◌+◌, ℕ, false, not, if◌then◌else◌, nat_le, List, [], None, Some, Option, max}
-use Rattle.wf_alone.specs.Machine.{Rest, IsReached, closed, config_by, heard, logged, main_at, main_by, main_local, main_scene, one_more, passed, read_by, read_for, seen_by, sent, step_by}
-use Rattle.wf_alone.specs.Plain.{ArePlain, CanWake, Moves}
+use Rattle.wf_alone.specs.Machine.{Rest, IsReached, closed, config_by, heard, logged, main_at, main_by, main_local, main_scene, one_more, passed, read_by, read_for, sent}
+use Rattle.wf_alone.specs.Plain.{ArePlain}
 use Rattle.wf_alone.specs.Waiting.{IsOff, Matches, call_by, call_of, caller, due_for}
 use Rattle.wf_ast.specs.Accept.{Accept}
 use Rattle.wf_ast.specs.Tree.{Program}
@@ -17,6 +17,8 @@ use Rattle.wf_model.specs.Run.{initial}
 use Rattle.wf_model.specs.Step.{next}
 use Rattle.wf_model.specs.Taken.{merged, outcome_of}
 use Rattle.wf_model.specs.WaitLaws.{Sound}
+use Rattle.wf_together.specs.Chosen.{CanWake, Moves, step_by}
+use Rattle.wf_together.specs.Steps.{seen_by}
 use Rattle.wf_value.specs.Events.{Event, Reply, Start}
 use Rattle.wf_value.specs.HttpRequest.{Request}
 use Rattle.wf_value.specs.HttpText.{reply_length, reply_result}

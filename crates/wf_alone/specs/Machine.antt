@@ -3,15 +3,14 @@
 --     main_task                the task, at a control, with layers of its own and a wait
 --     config_by, main_at       a configuration of some live tasks, and of that one
 --     main_scene, main_local   what `main`'s step reads, and what it changes
---     step_by ..               the step that `main`'s control wants, by its kind
+--     read_for                 the last reading behind a step, by its kind
 --     facts_of, argument_of    what a start tells
 use Rattle.std.specs.Prelude.{ℕ, ◌+◌, List, [], ◌∷◌, ◌++◌, length, None, slice_set, zero, suc, unwrap_or}
 use Rattle.wf_ast.specs.Tree.{Program}
 use Rattle.wf_model.specs.Config.{Active, Call, Calling, Config, Facts, Item, Layer, LogEntry, Open, Outcome, TimedOut, Wait}
 use Rattle.wf_model.specs.Config as model
 use Rattle.wf_model.specs.Kinds.{ByCall, ByClock, NextKind, Plainly}
-use Rattle.wf_model.specs.Local.{Local, Main, Moved, Scene}
-use Rattle.wf_model.specs.Move.{issue, move}
+use Rattle.wf_model.specs.Local.{Local, Main, Scene}
 use Rattle.wf_model.specs.Run.{Run}
 use Rattle.wf_model.specs.Taken.{first_visitor, log_total}
 use Rattle.wf_value.specs.Events.{Event, Start}
@@ -113,19 +112,7 @@ main_scene program rest now = record {
 abbrev pub main_local : List Item → List Layer → Wait → Local
 main_local control layers wait = record { control = control; layers = layers; outer = []; wait = wait }
 
--- the step that a task takes whose control wants this kind of event
-abbrev pub step_by : NextKind → Scene → Local → Moved
-step_by Plainly = move
-step_by ByClock = move
-step_by ByCall = issue
-
--- the reading that it sees, at this one: 0 where it sees none
-abbrev pub seen_by : NextKind → ℕ → ℕ
-seen_by Plainly r = 0
-seen_by ByClock r = r
-seen_by ByCall r = r
-
--- and the last reading behind it
+-- the last reading behind a step that wants this kind of event
 abbrev pub read_for : NextKind → ℕ → Rest → Rest
 read_for Plainly r x = x
 read_for ByClock r x = read_by r x

@@ -29,7 +29,7 @@ line text = text ++ codes "\n"
 unfoldable pub help : List ℕ
 help =
     line (codes "workflow COMMAND [--OPTION WORD ..]")
-    ++ line (codes "check      tells whether a program is accepted: --source")
+    ++ line (codes "check      tells whether a source is accepted: --source")
     ++ line (codes "format     prints the tree of a source: --source")
     ++ line (codes "run        runs it: --source, --journal, --args, --id, --route, --env, --waits")
     ++ line (codes "resume     goes on with an execution: --journal, --waits")

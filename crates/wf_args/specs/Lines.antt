@@ -147,7 +147,7 @@ env_in word =
 abbrev pub is_word : OptionName → List ℕ → Bool
 is_word Source word = is_path word
 is_word Journal word = is_path word
-is_word Args word = true
+is_word Args word = nat_le (length word) longest_word
 is_word Id word = nat_lt 0 (length word) && nat_le (length word) 64 && list_all is_id_byte word
 is_word Route word = is_some (route_in word)
 is_word Env word = is_some (env_in word)

@@ -9,7 +9,7 @@ pub fn help_text() -> &'static str
     ensures lists { IsHelp result.now }
 {
     "workflow COMMAND [--OPTION WORD ..]\n\
-     check      tells whether a program is accepted: --source\n\
+     check      tells whether a source is accepted: --source\n\
      format     prints the tree of a source: --source\n\
      run        runs it: --source, --journal, --args, --id, --route, --env, --waits\n\
      resume     goes on with an execution: --journal, --waits\n\

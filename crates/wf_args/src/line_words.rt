@@ -42,8 +42,8 @@ impl<'w> Line<'w> {
         find_in(OptionName::Journal, self.options)
     }
 
-    /// The text that is to be the JSON of `main`'s argument, where the option `--args` stands. It may
-    /// be any.
+    /// The text that is to be the JSON of `main`'s argument, of at most 65,536 bytes, where the option
+    /// `--args` stands.
     pub fn args(&self) -> Option<&'w str>
         ensures { option_copied result ≡ word_of Args (plain_line self.now) }
     {

@@ -83,9 +83,10 @@ impl OptionName {
     }
 
     /// Whether a word may stand behind the name: for a path one of 1 to 65,536 bytes, for an argument
-    /// any, also the empty one, for an id 1 to 64 letters, digits, `.`, `_` and `-`, for a route
-    /// `HOST=NAME:PORT`, for the environment `KEY=VALUE`, for waits a number of 1 to 1,000,000,000, for
-    /// turns one of 0 to 4,294,967,295, and for a text to be found one of at most 65,536 bytes.
+    /// one of at most 65,536 bytes, also the empty one, for an id 1 to 64 letters, digits, `.`, `_` and
+    /// `-`, for a route `HOST=NAME:PORT`, for the environment `KEY=VALUE`, for waits a number of 1 to
+    /// 1,000,000,000, for turns one of 0 to 4,294,967,295, and for a text to be found one of at most
+    /// 65,536 bytes.
     pub(crate) fn fits(self, word: &str) -> bool
         ensures { result ≡ is_word self word.now }
     {
@@ -93,7 +94,7 @@ impl OptionName {
             OptionName::Source | OptionName::Journal => {
                 !word.is_empty() && word.len() <= LONGEST_WORD
             }
-            OptionName::Args => true,
+            OptionName::Args => word.len() <= LONGEST_WORD,
             OptionName::Id => !word.is_empty() && word.len() <= 64 && all_of_ids(word.as_bytes()),
             OptionName::Route => route_in(word).is_some(),
             OptionName::Env => env_in(word).is_some(),

@@ -71,6 +71,7 @@ impl Model for Postfix {
 }
 
 impl Postfix {
+    /// The instructions, in their order.
     pub fn items(&self) -> &[Instr]
         ensures items { result.now ≡ self.now }
         ensures code { (e : t.Expr) × (instrs self.now ≡ code e) }

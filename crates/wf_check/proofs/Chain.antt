@@ -6,12 +6,13 @@ use Rattle.wf_ast.specs.Blocks.{first, out_of_scope, outside_loop, rule_double, 
 use Rattle.wf_ast.specs.Nodes.{Around, NodePart, Path, node}
 use Rattle.wf_ast.specs.Tree.{Flow}
 use Rattle.wf_diagnostics.proofs.Told.{tells_as}
-use Rattle.wf_diagnostics.specs.Answers.{Tells}
+use Rattle.wf_diagnostics.specs.Answers.{IsRuleFault}
 use Rattle.wf_check_expressions.specs.Forms.{not_yet}
 use Rattle.wf_diagnostics.specs.Said.{Said, as_said}
 use Rattle.wf_check.specs.Said.{kind_of, said, said_of}
 use Rattle.wf_diagnostics.specs.declared.kind.CheckKind.TheVariants as kinds
-use Rattle.wf_diagnostics.specs.declared.stop.Stop.{Stop}
+use Rattle.wf_diagnostics.specs.declared.kind.CheckKind.{CheckKind}
+use Rattle.wf_value.specs.declared.stop.Stop.{Stop}
 use Rattle.wf_value.specs.HttpUrl.{first_of_two}
 use Rattle.wf_value.specs.Pairs.{Text}
 
@@ -42,7 +43,7 @@ of_rules [] (Some q) = refl
 of_rules (None ∷ os) q = of_rules os q
 of_rules (Some f ∷ os) q = refl
 
-told : (fs : List Flow) (n : ℕ) (e : List Text) (part : NodePart) (a : Around) (path : Path) → first (all_said fs n e part a path) ≡ said fs n e (node part a path)
+pub told : (fs : List Flow) (n : ℕ) (e : List Text) (part : NodePart) (a : Around) (path : Path) → first (all_said fs n e part a path) ≡ said fs n e (node part a path)
 unfolding fault rules
 told fs n e part a path = sym (of_rules (rules fs n e (node part a path)) (as_said kinds.NotYet (not_yet fs part path)) ∙ (λ i. first (
     of_rule Kind.EmptySteps (rule_empty part path) i
@@ -59,13 +60,13 @@ told fs n e part a path = sym (of_rules (rules fs n e (node part a path)) (as_sa
     ∷ of_rule Kind.TooMany (rule_many n part path) i
     ∷ as_said kinds.NotYet (not_yet fs part path) ∷ [])))
 
-pub all_of : (r : Result (Unit {0}) Stop) (fs : List Flow) (n : ℕ) (e : List Text) (part : NodePart) (a : Around) → Tells r (λ path. first (all_said fs n e part a path)) → Tells r (λ path. said fs n e (node part a path))
+pub all_of : (r : Result (Unit {0}) (Stop CheckKind)) (fs : List Flow) (n : ℕ) (e : List Text) (part : NodePart) (a : Around) → IsRuleFault r (λ path. first (all_said fs n e part a path)) → IsRuleFault r (λ path. said fs n e (node part a path))
 all_of r fs n e part a h = tells_as r (λ path. first (all_said fs n e part a path)) (λ path. said fs n e (node part a path)) (λ path. told fs n e part a path) h
 
-pub chained : (r : Result (Unit {0}) Stop) (s : Stop) (fs : List Flow) (n : ℕ) (e : List Text) (part : NodePart) (a : Around) → r ≡ Err s → Tells (Err s) (λ path. first (all_said fs n e part a path)) → Tells r (λ path. said fs n e (node part a path))
-chained r s fs n e part a is h = subst (λ q. Tells q (λ path. said fs n e (node part a path))) (sym is) (all_of (Err s) fs n e part a h)
+pub chained : (r : Result (Unit {0}) (Stop CheckKind)) (s : Stop CheckKind) (fs : List Flow) (n : ℕ) (e : List Text) (part : NodePart) (a : Around) → r ≡ Err s → IsRuleFault (Err s) (λ path. first (all_said fs n e part a path)) → IsRuleFault r (λ path. said fs n e (node part a path))
+chained r s fs n e part a is h = subst (λ q. IsRuleFault q (λ path. said fs n e (node part a path))) (sym is) (all_of (Err s) fs n e part a h)
 
 -- what holds anyway
-pub holds_anyway : (r : Result (Unit {0}) Stop) (n : ℕ) → n < 1000000 → OnOk r (n < 1000000)
+pub holds_anyway : (r : Result (Unit {0}) (Stop CheckKind)) (n : ℕ) → n < 1000000 → OnOk r (n < 1000000)
 holds_anyway (Ok u) n h = h
 holds_anyway (Err s) n h = tt

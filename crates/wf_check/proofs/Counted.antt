@@ -6,13 +6,14 @@ use Rattle.wf_ast.specs.Tree.{Flow}
 use Rattle.wf_check.proofs.Walks.{behind, first_append}
 use Rattle.wf_check.specs.Walks.{Counts, Walks, after}
 use Rattle.wf_check.specs.declared.progress.Progress.{Progress}
-use Rattle.wf_diagnostics.specs.declared.stop.Stop.{Stop}
-use Rattle.wf_diagnostics.specs.declared.stop.Stop.TheVariants as stop
+use Rattle.wf_diagnostics.specs.declared.kind.CheckKind.{CheckKind}
+use Rattle.wf_value.specs.declared.stop.Stop.{Stop}
+use Rattle.wf_value.specs.declared.stop.Stop.TheVariants as stop
 use Rattle.wf_value.specs.HttpUrl.{first_of_two}
 use Rattle.wf_value.specs.Pairs.{Text}
 use Rattle.wf_check.specs.Said.{said_among}
 
-pub counts_fails : (fs : List Flow) (old new : Progress) (s : Stop) (vs : List Node) → Walks fs [] old new (Err s) [] vs → Counts fs old.number (Err s) vs
+pub counts_fails : (fs : List Flow) (old new : Progress) (s : Stop CheckKind) (vs : List Node) → Walks fs [] old new (Err s) [] vs → Counts fs old.number (Err s) vs
 counts_fails fs old new (stop.Refused k way) vs h = h
 counts_fails fs old new stop.OutOfMemory vs h = tt
 
@@ -22,7 +23,7 @@ unfolding nodes fault rules
 anew fs n e [] = refl
 anew fs n e (f ∷ rest) = refl
 
-pub counts_first : (fs : List Flow) (number : ℕ) (s : Stop) (all xs ys : List Node) → said_among fs 0 [] all ≡ said_among fs number [] (xs ++ ys) → Counts fs number (Err s) xs → Counts fs 0 (Err s) all
+pub counts_first : (fs : List Flow) (number : ℕ) (s : Stop CheckKind) (all xs ys : List Node) → said_among fs 0 [] all ≡ said_among fs number [] (xs ++ ys) → Counts fs number (Err s) xs → Counts fs 0 (Err s) all
 counts_first fs number (stop.Refused k way) all xs ys e h = e ∙ first_append fs number [] xs ys ∙ ap (λ o. first_of_two o (said_among fs (number + length xs) (after xs []) ys)) h
 counts_first fs number stop.OutOfMemory all xs ys e h = tt
 

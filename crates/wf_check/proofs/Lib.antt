@@ -5,3 +5,5 @@ pub mod Held
 pub mod Counted
 pub mod Chain
 pub mod Accepted
+pub mod Bodies
+pub mod Callable

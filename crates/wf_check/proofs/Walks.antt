@@ -6,15 +6,17 @@ use Rattle.wf_ast.specs.Accept.{after_part}
 use Rattle.wf_ast.specs.Nodes.{Around, Node, Path, below, nth}
 use Rattle.wf_ast.specs.Tree.{Flow}
 use Rattle.wf_diagnostics.proofs.Told.{further}
-use Rattle.wf_diagnostics.specs.Answers.{IsKeyed, IsOutside}
+use Rattle.wf_diagnostics.specs.Answers.{IsKeyed}
+use Rattle.wf_value.specs.Stops.{IsOutside}
 use Rattle.wf_symbols.specs.Around.{Alike, SameNames, Stands, Still, around_view, inside_view, layer_view, reach}
 use Rattle.wf_symbols.specs.Names.{names_of}
 use Rattle.wf_check.specs.Walks.{Walks, after}
 use Rattle.wf_symbols.specs.declared.around.Here.{Here}
 use Rattle.wf_symbols.specs.declared.around.Scopes.{Scopes}
 use Rattle.wf_check.specs.declared.progress.Progress.{Progress}
-use Rattle.wf_diagnostics.specs.declared.stop.Stop.{Stop}
-use Rattle.wf_diagnostics.specs.declared.stop.Stop.TheVariants as stop
+use Rattle.wf_diagnostics.specs.declared.kind.CheckKind.{CheckKind}
+use Rattle.wf_value.specs.declared.stop.Stop.{Stop}
+use Rattle.wf_value.specs.declared.stop.Stop.TheVariants as stop
 use Rattle.wf_value.specs.HttpUrl.{first_of_two}
 use Rattle.wf_value.specs.Pairs.{Text}
 use Rattle.wf_value.specs.declared.path.PathPart.{PathPart}
@@ -61,7 +63,7 @@ stands_still a b h r s k =
     } in
     subst (λ w. Alike w r) (sym same) k
 
-pub goes_on : (fs : List Flow) (p q : Path) (old mid new : Progress) (r : Result (Unit {0}) Stop) (e : List Text) (xs ys : List Node) → Walks fs p old mid (Ok tt) e xs → Walks fs q mid new r (after xs e) ys
+pub goes_on : (fs : List Flow) (p q : Path) (old mid new : Progress) (r : Result (Unit {0}) (Stop CheckKind)) (e : List Text) (xs ys : List Node) → Walks fs p old mid (Ok tt) e xs → Walks fs q mid new r (after xs e) ys
     → Walks fs q old new r e (xs ++ ys)
 goes_on fs p q old mid new (Ok u) e xs ys h k = (
   behind fs old.number mid.number e xs ys h.0 h.1 ∙ k.0,
@@ -72,12 +74,12 @@ goes_on fs p q old mid new (Ok u) e xs ys h k = (
 goes_on fs p q old mid new (Err (stop.Refused kind way)) e xs ys h k = behind fs old.number mid.number e xs ys h.0 h.1 ∙ k
 goes_on fs p q old mid new (Err stop.OutOfMemory) e xs ys h k = tt
 
-pub stops : (fs : List Flow) (p : Path) (old mid new : Progress) (s : Stop) (e : List Text) (xs ys : List Node) → Walks fs p old mid (Err s) e xs → Walks fs p old new (Err s) e (xs ++ ys)
+pub stops : (fs : List Flow) (p : Path) (old mid new : Progress) (s : Stop CheckKind) (e : List Text) (xs ys : List Node) → Walks fs p old mid (Err s) e xs → Walks fs p old new (Err s) e (xs ++ ys)
 stops fs p old mid new (stop.Refused kind way) e xs ys h = first_append fs old.number e xs ys ∙ ap (λ o. first_of_two o (said_among fs (old.number + length xs) (after xs e) ys)) h
 stops fs p old mid new stop.OutOfMemory e xs ys h = tt
 
 -- ## From further out
-pub from_outside : (fs : List Flow) (path : Path) (p : PathPart) (old new later : Progress) (s outer : Stop) (e : List Text) (vs : List Node) → IsOutside p s outer → Walks fs (path ++ p ∷ []) old new (Err s) e vs
+pub from_outside : (fs : List Flow) (path : Path) (p : PathPart) (old new later : Progress) (s outer : Stop CheckKind) (e : List Text) (vs : List Node) → IsOutside p s outer → Walks fs (path ++ p ∷ []) old new (Err s) e vs
     → Walks fs path old later (Err outer) e vs
 from_outside fs path p old new later (stop.Refused k ps) (stop.Refused j qs) e vs o h =
     h ∙ (λ i. Some (record { kind = (sym o.0 i); place = further path ps.items qs.items p o.1 i }))
@@ -85,22 +87,22 @@ from_outside fs path p old new later stop.OutOfMemory (stop.Refused j qs) e vs o
 from_outside fs path p old new later (stop.Refused k ps) stop.OutOfMemory e vs o h = tt
 from_outside fs path p old new later stop.OutOfMemory stop.OutOfMemory e vs o h = tt
 
-pub at_key : (fs : List Flow) (path : Path) (key : Text) (old new : Progress) (found result : Result (Unit {0}) Stop) (e : List Text) (vs : List Node) → IsKeyed key found result → Walks fs (below path key) old new found e vs
+pub at_key : (fs : List Flow) (path : Path) (key : Text) (old new : Progress) (found result : Result (Unit {0}) (Stop CheckKind)) (e : List Text) (vs : List Node) → IsKeyed key found result → Walks fs (below path key) old new found e vs
     → Walks fs path old new result e vs
 at_key fs path key old new (Ok u) (Ok v) e vs k h = h
 at_key fs path key old new (Err s) (Err outer) e vs k h = from_outside fs path (part.Key key) old new new s outer e vs k h
 at_key fs path key old new (Ok u) (Err s) e vs k h = absurd k
 at_key fs path key old new (Err s) (Ok u) e vs k h = absurd k
 
-pub at_text : (fs : List Flow) (path : Path) (key k : Text) (old new : Progress) (found result : Result (Unit {0}) Stop) (e : List Text) (vs : List Node) → key ≡ k → IsKeyed key found result → Walks fs (below path k) old new found e vs
+pub at_text : (fs : List Flow) (path : Path) (key k : Text) (old new : Progress) (found result : Result (Unit {0}) (Stop CheckKind)) (e : List Text) (vs : List Node) → key ≡ k → IsKeyed key found result → Walks fs (below path k) old new found e vs
     → Walks fs path old new result e vs
 at_text fs path key k old new found result e vs is h w = at_key fs path key old new found result e vs h (subst (λ x. Walks fs (below path x) old new found e vs) (sym is) w)
 
-pub of_these : (fs : List Flow) (path : Path) (old new : Progress) (r : Result (Unit {0}) Stop) (e : List Text) (vs ws : List Node) → vs ≡ ws → Walks fs path old new r e vs → Walks fs path old new r e ws
+pub of_these : (fs : List Flow) (path : Path) (old new : Progress) (r : Result (Unit {0}) (Stop CheckKind)) (e : List Text) (vs ws : List Node) → vs ≡ ws → Walks fs path old new r e vs → Walks fs path old new r e ws
 of_these fs path old new r e vs ws is w = subst (λ l. Walks fs path old new r e l) is w
 
 -- a fault is told alike of what has the same number
-pub told_alike : (fs : List Flow) (path : Path) (old mid new later : Progress) (s : Stop) (e : List Text) (vs : List Node) → mid.number ≡ old.number → Walks fs path mid new (Err s) e vs → Walks fs path old later (Err s) e vs
+pub told_alike : (fs : List Flow) (path : Path) (old mid new later : Progress) (s : Stop CheckKind) (e : List Text) (vs : List Node) → mid.number ≡ old.number → Walks fs path mid new (Err s) e vs → Walks fs path old later (Err s) e vs
 told_alike fs path old mid new later (stop.Refused k way) e vs is h = ap (λ n. said_among fs n e vs) (sym is) ∙ h
 told_alike fs path old mid new later stop.OutOfMemory e vs is h = tt
 
@@ -110,7 +112,7 @@ pub record Rest (fs : List Flow) (path : Path) (initial : Progress) (now : Progr
   pub names : List Text
   pub seen : SameNames (names_of now.seen) names
   pub still : Still initial.scopes now.scopes
-  pub on : (r : Result (Unit {0}) Stop) (new : Progress) → Walks fs path now new r names rest → Walks fs path initial new r earlier all
+  pub on : (r : Result (Unit {0}) (Stop CheckKind)) (new : Progress) → Walks fs path now new r names rest → Walks fs path initial new r earlier all
 
 pub begins : (fs : List Flow) (path : Path) (initial : Progress) (earlier : List Text) (all : List Node) → SameNames (names_of initial.seen) earlier → Rest fs path initial initial earlier all all
 begins fs path initial earlier all h = record { names = earlier; seen = h; still = still initial.scopes; on = λ r new w. w }
@@ -124,7 +126,7 @@ next fs path q initial now new earlier all xs ys h w = record {
   on = λ r later z. h.on r later (goes_on fs q path now new later r h.names xs ys w z);
 }
 
-pub fails : (fs : List Flow) (path : Path) (initial now mid new : Progress) (s : Stop) (earlier : List Text) (all xs ys : List Node) (h : Rest fs path initial now earlier all (xs ++ ys)) → Walks fs path now mid (Err s) h.names xs
+pub fails : (fs : List Flow) (path : Path) (initial now mid new : Progress) (s : Stop CheckKind) (earlier : List Text) (all xs ys : List Node) (h : Rest fs path initial now earlier all (xs ++ ys)) → Walks fs path now mid (Err s) h.names xs
     → Walks fs path initial new (Err s) earlier all
 fails fs path initial now mid new s earlier all xs ys h w = h.on (Err s) new (stops fs path now mid new s h.names xs ys w)
 
@@ -147,7 +149,7 @@ module _ {A : Type 0} (fs : List Flow) (path : Path) (row : List A → ℕ → L
       let k = turned initial now earlier all vs x lt is e h in
       next fs path (nth path i) initial now new earlier all vs (row (drop (i + 1) xs) (i + 1)) k (w k.names k.seen)
 
-  pub item_fails : (initial now mid new : Progress) (earlier : List Text) (all vs : List Node) (x : A) (s outer : Stop) → i < length xs → x ≡ get_or xs i x → ((rest : List A) → row (x ∷ rest) i ≡ vs ++ row rest (suc i))
+  pub item_fails : (initial now mid new : Progress) (earlier : List Text) (all vs : List Node) (x : A) (s outer : Stop CheckKind) → i < length xs → x ≡ get_or xs i x → ((rest : List A) → row (x ∷ rest) i ≡ vs ++ row rest (suc i))
       → Rest fs path initial now earlier all (row (drop i xs) i) → ((e : List Text) → SameNames (names_of now.seen) e → Walks fs (nth path i) now mid (Err s) e vs) → IsOutside (part.Index i) s outer
       → Walks fs path initial new (Err outer) earlier all
   item_fails initial now mid new earlier all vs x s outer lt is e h w o =
@@ -155,13 +157,13 @@ module _ {A : Type 0} (fs : List Flow) (path : Path) (row : List A → ℕ → L
       fails fs path initial now new new outer earlier all vs (row (drop (i + 1) xs) (i + 1)) k (from_outside fs path (part.Index i) now mid new s outer k.names vs o (w k.names k.seen))
 
   -- the same of what stands at a key in the item
-  pub keyed_goes : (initial now new : Progress) (earlier : List Text) (all vs : List Node) (x : A) (key k : Text) (found : Result (Unit {0}) Stop) → i < length xs → x ≡ get_or xs i x
+  pub keyed_goes : (initial now new : Progress) (earlier : List Text) (all vs : List Node) (x : A) (key k : Text) (found : Result (Unit {0}) (Stop CheckKind)) → i < length xs → x ≡ get_or xs i x
       → ((rest : List A) → row (x ∷ rest) i ≡ vs ++ row rest (suc i)) → Rest fs path initial now earlier all (row (drop i xs) i) → key ≡ k → IsKeyed key found (Ok tt)
       → ((e : List Text) → SameNames (names_of now.seen) e → Walks fs (below (nth path i) k) now new found e vs) → Rest fs path initial new earlier all (row (drop (i + 1) xs) (i + 1))
   keyed_goes initial now new earlier all vs x key k found lt is e h same o w =
       item_goes initial now new earlier all vs x lt is e h (λ names seen. at_text fs (nth path i) key k now new found (Ok tt) names vs same o (w names seen))
 
-  pub keyed_fails : (initial now mid new : Progress) (earlier : List Text) (all vs : List Node) (x : A) (key k : Text) (found : Result (Unit {0}) Stop) (s outer : Stop) → i < length xs → x ≡ get_or xs i x
+  pub keyed_fails : (initial now mid new : Progress) (earlier : List Text) (all vs : List Node) (x : A) (key k : Text) (found : Result (Unit {0}) (Stop CheckKind)) (s outer : Stop CheckKind) → i < length xs → x ≡ get_or xs i x
       → ((rest : List A) → row (x ∷ rest) i ≡ vs ++ row rest (suc i)) → Rest fs path initial now earlier all (row (drop i xs) i) → key ≡ k → IsKeyed key found (Err s)
       → ((e : List Text) → SameNames (names_of now.seen) e → Walks fs (below (nth path i) k) now mid found e vs) → IsOutside (part.Index i) s outer → Walks fs path initial new (Err outer) earlier all
   keyed_fails initial now mid new earlier all vs x key k found s outer lt is e h same o w out =

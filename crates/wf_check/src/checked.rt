@@ -2,6 +2,7 @@
 ghost use Rattle.std.specs.Prelude.{◌≡◌, IsTrue, option_copied, slice_get};
 ghost use Rattle.wf_ast.specs.Accept.{Accept};
 ghost use Rattle.wf_ast.specs.View.{program_view};
+ghost use Rattle.wf_check.specs.Callable.{CallsLead};
 ghost use Rattle.wf_check.specs.Numbered.{IsNumbered, IsNumbered-prop};
 ghost use Rattle.wf_check.specs.Said.{is_accepted, program_built};
 ghost use Rattle.wf_model.specs.Spots.{spots};
@@ -35,10 +36,12 @@ impl Checked {
         &self.program
     }
 
-    /// The nodes of the program by their numbers: each is the part of its number, and jumps lead where the names of steps say.
+    /// The nodes of the program by their numbers: each is the part of its number, and jumps lead where the names of steps say. Each call
+    /// names what may be called, and each predicate that is named is a workflow that may be called.
     pub fn nodes(&self) -> &[Node]
         ensures nodes { result.now ≡ nodes_of self.now }
         ensures resolves { Resolves (spots (program_of self.now).flows) result.now }
+        ensures lead { CallsLead (program_of self.now).flows result.now }
     {
         self.table.nodes()
     }

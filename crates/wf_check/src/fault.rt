@@ -2,7 +2,7 @@
 ghost use Rattle.std.specs.Prelude.{◌<◌, OnOk, map};
 ghost use Rattle.wf_ast.specs.Nodes.{node};
 ghost use Rattle.wf_ast.specs.View.{flow_view};
-ghost use Rattle.wf_diagnostics.specs.Answers.{Tells};
+ghost use Rattle.wf_diagnostics.specs.Answers.{IsRuleFault};
 ghost use Rattle.wf_symbols.specs.Around.{around_view};
 ghost use Rattle.wf_symbols.specs.Names.{names_of};
 ghost use Rattle.wf_diagnostics.specs.Parts.{part_view};
@@ -27,7 +27,7 @@ pub(crate) fn fault(
     here: Here,
     part: &Part,
 ) -> Result<(), Stop>
-    ensures first { Tells result (λ path. said (map flow_view flows.now) progress.now.number
+    ensures first { IsRuleFault result (λ path. said (map flow_view flows.now) progress.now.number
         (names_of progress.now.seen)
         (node (part_view part.now) (around_view progress.now.scopes here) path)) }
     ensures few { OnOk result (progress.now.number < 1000000) }

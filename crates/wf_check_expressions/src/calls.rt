@@ -5,7 +5,7 @@ ghost use Rattle.wf_ast.specs.Flows.{flow as flow_of};
 ghost use Rattle.wf_ast.specs.Nodes.{BodyPart};
 ghost use Rattle.wf_ast.specs.Tree as tree;
 ghost use Rattle.wf_ast.specs.View.{body_view, call_view, flow_view, try_view};
-ghost use Rattle.wf_diagnostics.specs.Answers.{Tells};
+ghost use Rattle.wf_diagnostics.specs.Answers.{IsRuleFault};
 ghost use Rattle.wf_diagnostics.specs.Parts.{part_view};
 ghost use Rattle.wf_diagnostics.specs.Said.{as_said};
 ghost use Rattle.wf_diagnostics.specs.declared.kind.CheckKind.TheVariants as kinds;
@@ -62,7 +62,7 @@ fn predicate_of(tried: &TryBody) -> Option<&Text>
 }
 
 fn unknown_in_body(alloc: Global, body: &Body, flows: &[Flow]) -> Result<(), Stop>
-    ensures { Tells result (λ path. as_said kinds.UnknownCall
+    ensures { IsRuleFault result (λ path. as_said kinds.UnknownCall
         (rules.rule_call (map flow_view flows.now) (BodyPart (body_view body.now)) path)) }
 {
     let kind = CheckKind::UnknownCall;
@@ -88,7 +88,7 @@ fn unknown_in_body(alloc: Global, body: &Body, flows: &[Flow]) -> Result<(), Sto
 
 /// A call names neither a workflow nor a function, or a retry asks what is no workflow.
 pub fn unknown_call(alloc: Global, part: &Part, flows: &[Flow]) -> Result<(), Stop>
-    ensures { Tells result (λ path. as_said kinds.UnknownCall
+    ensures { IsRuleFault result (λ path. as_said kinds.UnknownCall
         (rules.rule_call (map flow_view flows.now) (part_view part.now) path)) }
 {
     match part {
@@ -128,7 +128,7 @@ fn predicate_fits(flows: &[Flow], name: &str) -> bool
 }
 
 fn bad_in_body(alloc: Global, body: &Body, flows: &[Flow]) -> Result<(), Stop>
-    ensures { Tells result (λ path. as_said kinds.BadArgument
+    ensures { IsRuleFault result (λ path. as_said kinds.BadArgument
         (rules.rule_argument (map flow_view flows.now) (BodyPart (body_view body.now)) path)) }
 {
     let kind = CheckKind::BadArgument;
@@ -157,7 +157,7 @@ fn bad_in_body(alloc: Global, body: &Body, flows: &[Flow]) -> Result<(), Stop>
 
 /// The arguments don't fit what is called.
 pub fn bad_argument(alloc: Global, part: &Part, flows: &[Flow]) -> Result<(), Stop>
-    ensures { Tells result (λ path. as_said kinds.BadArgument
+    ensures { IsRuleFault result (λ path. as_said kinds.BadArgument
         (rules.rule_argument (map flow_view flows.now) (part_view part.now) path)) }
 {
     match part {

@@ -5,7 +5,7 @@ ghost use Rattle.wf_ast.specs.Accept as rules;
 ghost use Rattle.wf_ast.specs.Nodes.{EntryPart, nth};
 ghost use Rattle.wf_ast.specs.Tree.{exprs, fields, templates};
 ghost use Rattle.wf_ast.specs.View.{body_view, entry_view, expr_view, field_view, over_view, part_view as piece_view, template_view};
-ghost use Rattle.wf_diagnostics.specs.Answers.{Tells};
+ghost use Rattle.wf_diagnostics.specs.Answers.{IsRuleFault};
 ghost use Rattle.wf_check_expressions.specs.Expressions.{are_fine, body_failing, failing, fields_failing, is_part_fine, items_failing, over_failing, part_failing};
 ghost use Rattle.wf_symbols.specs.Around.{around_view, layer_view};
 ghost use Rattle.wf_diagnostics.specs.Parts.{part_view};
@@ -57,7 +57,7 @@ fn pieces_pass(pieces: &[Piece], layers: &[Layer]) -> bool
 
 #[cycle(template)]
 fn failing(alloc: Global, layers: &[Layer], template: &Template) -> Result<(), Stop>
-    ensures { Tells result (λ path. as_said kinds.UnknownName
+    ensures { IsRuleFault result (λ path. as_said kinds.UnknownName
         (failing (sees (map layer_view layers.now)) (template_view template.now) path)) }
 {
     match template {
@@ -78,7 +78,7 @@ fn failing(alloc: Global, layers: &[Layer], template: &Template) -> Result<(), S
 
 #[cycle(template)]
 fn items_failing(alloc: Global, layers: &[Layer], members: &[Template]) -> Result<(), Stop>
-    ensures { Tells result (λ path. as_said kinds.UnknownName
+    ensures { IsRuleFault result (λ path. as_said kinds.UnknownName
         (items_failing (sees (map layer_view layers.now))
         (templates (map template_view members.now)) path 0)) }
 {
@@ -93,7 +93,7 @@ fn items_failing(alloc: Global, layers: &[Layer], members: &[Template]) -> Resul
 
 #[cycle(template)]
 fn fields_failing(alloc: Global, layers: &[Layer], members: &[NamedTemplate]) -> Result<(), Stop>
-    ensures { Tells result (λ path. as_said kinds.UnknownName
+    ensures { IsRuleFault result (λ path. as_said kinds.UnknownName
         (fields_failing (sees (map layer_view layers.now))
         (fields (map field_view members.now)) path)) }
 {
@@ -110,7 +110,7 @@ fn fields_failing(alloc: Global, layers: &[Layer], members: &[NamedTemplate]) ->
 
 /// What a loop runs over.
 fn over_failing(alloc: Global, layers: &[Layer], over: &Over) -> Result<(), Stop>
-    ensures { Tells result (λ path. as_said kinds.UnknownName
+    ensures { IsRuleFault result (λ path. as_said kinds.UnknownName
         (over_failing (sees (map layer_view layers.now)) (over_view over.now) path)) }
 {
     match over {
@@ -132,7 +132,7 @@ fn ends_failing(
     first: &Template,
     last: &Template,
 ) -> Result<(), Stop>
-    ensures { Tells result (λ path. as_said kinds.UnknownName
+    ensures { IsRuleFault result (λ path. as_said kinds.UnknownName
         (first_of_two
         (failing (sees (map layer_view layers.now)) (template_view first.now) (nth path 0))
         (failing (sees (map layer_view layers.now)) (template_view last.now) (nth path 1)))) }
@@ -149,7 +149,7 @@ fn ends_failing(
 
 /// What a body reads in its own move.
 fn body_failing(alloc: Global, layers: &[Layer], body: &Body) -> Result<(), Stop>
-    ensures { Tells result (λ path. as_said kinds.UnknownName
+    ensures { IsRuleFault result (λ path. as_said kinds.UnknownName
         (body_failing (sees (map layer_view layers.now)) (body_view body.now) path)) }
 {
     match body {
@@ -187,7 +187,7 @@ fn body_failing(alloc: Global, layers: &[Layer], body: &Body) -> Result<(), Stop
 
 /// An entry: its places come before its value.
 fn entry_failing(alloc: Global, layers: &[Layer], entry: &Entry) -> Result<(), Stop>
-    ensures { Tells result (λ path. as_said kinds.UnknownName
+    ensures { IsRuleFault result (λ path. as_said kinds.UnknownName
         (part_failing (sees (map layer_view layers.now)) (EntryPart (entry_view entry.now)) path)) }
 {
     let fine = all_pass(entry.target.places.items(), layers);
@@ -200,7 +200,7 @@ fn entry_failing(alloc: Global, layers: &[Layer], entry: &Entry) -> Result<(), S
 
 /// What a node reads in its own move.
 fn part_failing(alloc: Global, layers: &[Layer], part: &Part) -> Result<(), Stop>
-    ensures { Tells result (λ path. as_said kinds.UnknownName
+    ensures { IsRuleFault result (λ path. as_said kinds.UnknownName
         (part_failing (sees (map layer_view layers.now)) (part_view part.now) path)) }
 {
     match part {
@@ -218,7 +218,7 @@ fn part_failing(alloc: Global, layers: &[Layer], part: &Part) -> Result<(), Stop
 
 /// An expression reads a name of no visible layer.
 pub fn unknown_name(alloc: Global, part: &Part, scopes: &Scopes, here: Here) -> Result<(), Stop>
-    ensures { Tells result (λ path. as_said kinds.UnknownName
+    ensures { IsRuleFault result (λ path. as_said kinds.UnknownName
         (rules.rule_name (around_view scopes.now here) (part_view part.now) path)) }
 {
     let _here = here;

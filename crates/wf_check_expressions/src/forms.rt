@@ -2,7 +2,7 @@
 ghost use Rattle.std.specs.Prelude.{◌≡◌, map, option_map};
 ghost use Rattle.wf_ast.specs.Func.{func_named, special_named};
 ghost use Rattle.wf_ast.specs.View.{body_view, flow_view};
-ghost use Rattle.wf_diagnostics.specs.Answers.{Tells};
+ghost use Rattle.wf_diagnostics.specs.Answers.{IsRuleFault};
 ghost use Rattle.wf_check_expressions.specs.Forms as forms;
 ghost use Rattle.wf_diagnostics.specs.Parts.{part_view};
 ghost use Rattle.wf_diagnostics.specs.Said.{as_said};
@@ -53,7 +53,7 @@ fn form_key(flows: &[Flow], body: &Body) -> Option<&'static str>
 }
 
 fn form_of(alloc: Global, body: &Body, flows: &[Flow]) -> Result<(), Stop>
-    ensures { Tells result (λ path. as_said kinds.NotYet
+    ensures { IsRuleFault result (λ path. as_said kinds.NotYet
         (forms.form (map flow_view flows.now) (body_view body.now) path)) }
 {
     match form_key(flows, body) {
@@ -64,7 +64,7 @@ fn form_of(alloc: Global, body: &Body, flows: &[Flow]) -> Result<(), Stop>
 
 /// A form that isn't built yet is used.
 pub fn not_yet(alloc: Global, part: &Part, flows: &[Flow]) -> Result<(), Stop>
-    ensures { Tells result (λ path. as_said kinds.NotYet
+    ensures { IsRuleFault result (λ path. as_said kinds.NotYet
         (forms.not_yet (map flow_view flows.now) (part_view part.now) path)) }
 {
     match part {

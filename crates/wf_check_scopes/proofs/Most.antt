@@ -12,8 +12,9 @@ use Rattle.wf_ast.specs.declared.body.Arm.{Arm}
 use Rattle.wf_ast.specs.declared.body.Arms.{Arms}
 use Rattle.wf_ast.specs.declared.body.Branch.{Branch}
 use Rattle.wf_ast.specs.declared.body.Branches.{Branches}
-use Rattle.wf_diagnostics.specs.Answers.{Tells}
-use Rattle.wf_diagnostics.specs.declared.stop.Stop.{Stop}
+use Rattle.wf_diagnostics.specs.Answers.{IsRuleFault}
+use Rattle.wf_diagnostics.specs.declared.kind.CheckKind.{CheckKind}
+use Rattle.wf_value.specs.declared.stop.Stop.{Stop}
 use Rattle.wf_diagnostics.specs.Said.{as_said}
 use Rattle.wf_diagnostics.specs.declared.kind.CheckKind.TheVariants as kinds
 
@@ -38,7 +39,7 @@ not_spoken true path h = cc
 below_all : (n : ℕ) → nat_le 1000000 n ≡ false → n < 1000000
 below_all n h = grind (arith, nat_tests)
 
-pub few_of : (r : Result (Unit {0}) Stop) (n : ℕ) → Tells r (λ path. as_said kinds.TooMany (at_if (nat_le 1000000 n) path)) → OnOk r (n < 1000000)
+pub few_of : (r : Result (Unit {0}) (Stop CheckKind)) (n : ℕ) → IsRuleFault r (λ path. as_said kinds.TooMany (at_if (nat_le 1000000 n) path)) → OnOk r (n < 1000000)
 few_of (Ok u) n h = below_all n (not_spoken (nat_le 1000000 n) [] (h []))
 few_of (Err s) n h = tt
 

@@ -1,9 +1,10 @@
 // The rules of blocks: empty lists, names that stand twice, jumps and returns.
-ghost use Rattle.std.specs.Prelude.{◌≡◌, ◌&&◌, [], ◌∷◌, bytes_eq, codes, not};
+ghost use Rattle.std.specs.Prelude.{◌≡◌};
 ghost use Rattle.wf_ast.specs.Blocks as rules;
-ghost use Rattle.wf_ast.specs.Nodes.{below, part_body};
+ghost use Rattle.wf_ast.specs.Nodes.{part_body};
 ghost use Rattle.wf_ast.specs.View.{body_view, steps_in};
-ghost use Rattle.wf_diagnostics.specs.Answers.{Tells};
+ghost use Rattle.wf_check_scopes.specs.Jumps.{branch_view, out_of_scope_said, outside_loop_said, return_said, scopes_view, unknown_step_said};
+ghost use Rattle.wf_diagnostics.specs.Answers.{IsRuleFault};
 ghost use Rattle.wf_symbols.specs.Around.{inside_view, reach};
 ghost use Rattle.wf_symbols.specs.Names.{names_of};
 ghost use Rattle.wf_diagnostics.specs.Parts.{names_before, part_view};
@@ -25,7 +26,7 @@ fn is_empty(steps: &StepList) -> bool
 }
 
 fn empty_body(alloc: Global, body: &Body) -> Result<(), Stop>
-    ensures { Tells result (λ path. as_said kinds.EmptySteps
+    ensures { IsRuleFault result (λ path. as_said kinds.EmptySteps
         (rules.body_empty (body_view body.now) path)) }
 {
     let kind = CheckKind::EmptySteps;
@@ -59,7 +60,7 @@ fn empty_body(alloc: Global, body: &Body) -> Result<(), Stop>
 
 /// A list of steps, or of branches, has no item.
 pub fn empty(alloc: Global, part: &Part) -> Result<(), Stop>
-    ensures { Tells result (λ path. as_said kinds.EmptySteps
+    ensures { IsRuleFault result (λ path. as_said kinds.EmptySteps
         (rules.rule_empty (part_view part.now) path)) }
 {
     let kind = CheckKind::EmptySteps;
@@ -87,7 +88,7 @@ fn is_named(branches: &[Branch], name: &str) -> bool
 
 /// A step's name stands earlier in its workflow, or a branch's earlier in its step.
 pub fn double(alloc: Global, part: &Part, earlier: &Names) -> Result<(), Stop>
-    ensures { Tells result (λ path. as_said kinds.DoubleStep
+    ensures { IsRuleFault result (λ path. as_said kinds.DoubleStep
         (rules.rule_double (names_of earlier.now) (part_view part.now) path)) }
 {
     let kind = CheckKind::DoubleStep;
@@ -122,9 +123,7 @@ fn is_in_reach(name: &str, blocks: &[Block]) -> bool
 
 /// A `next` names no step of its workflow.
 pub fn unknown_step(alloc: Global, part: &Part, scopes: &Scopes) -> Result<(), Stop>
-    ensures { Tells result (λ path. as_said kinds.UnknownStep
-        (rules.rule_next (λ x. not (rules.is_word x) && not
-        (is_among x (names_of scopes.now.workflow))) (part_view part.now) path)) }
+    ensures { IsRuleFault result (unknown_step_said (scopes_view scopes.now) (part_view part.now)) }
 {
     let Some(name) = next_of(part) else {
         return Ok(());
@@ -136,9 +135,7 @@ pub fn unknown_step(alloc: Global, part: &Part, scopes: &Scopes) -> Result<(), S
 
 /// A `next` names a step that no jump from there reaches.
 pub fn out_of_scope(alloc: Global, part: &Part, scopes: &Scopes) -> Result<(), Stop>
-    ensures { Tells result (λ path. as_said kinds.JumpOutOfScope
-        (rules.rule_next (λ x. not (rules.is_word x) && is_among x (names_of scopes.now.workflow) &&
-        not (rules.in_blocks x (reach scopes.now.blocks.items))) (part_view part.now) path)) }
+    ensures { IsRuleFault result (out_of_scope_said (scopes_view scopes.now) (part_view part.now)) }
 {
     let Some(name) = next_of(part) else {
         return Ok(());
@@ -162,8 +159,7 @@ fn is_outside_loop(inside: Inside, name: &str) -> bool
 
 /// A `break` or a `continue` has no loop to act on.
 pub fn outside_loop(alloc: Global, part: &Part, inside: Inside) -> Result<(), Stop>
-    ensures { Tells result (λ path. as_said kinds.BreakOutsideLoop
-        (rules.rule_next (rules.outside_loop (inside_view inside)) (part_view part.now) path)) }
+    ensures { IsRuleFault result (outside_loop_said (inside_view inside) (part_view part.now)) }
 {
     let Some(name) = next_of(part) else {
         return Ok(());
@@ -184,10 +180,7 @@ fn is_return(part: &Part) -> bool
 
 /// A branch, or the body of a parallel loop, would end the workflow.
 pub fn return_in_branch(alloc: Global, part: &Part, in_branch: bool) -> Result<(), Stop>
-    ensures { Tells result (λ path. as_said kinds.ReturnInBranch
-        (rules.first (rules.at_if (in_branch && rules.is_return (part_body (part_view part.now)))
-        (below path (codes "return")) ∷ rules.rule_next (λ x. in_branch && bytes_eq x (codes "end"))
-        (part_view part.now) path ∷ []))) }
+    ensures { IsRuleFault result (return_said (branch_view in_branch) (part_view part.now)) }
 {
     let kind = CheckKind::ReturnInBranch;
     match speak_at(alloc, kind, in_branch && is_return(part), "return") {

@@ -3,7 +3,7 @@ ghost use Rattle.std.specs.Prelude.{◌≡◌, ◌<◌, ◌&&◌, OnOk, bytes_eq
 ghost use Rattle.wf_ast.specs.Accept as rules;
 ghost use Rattle.wf_ast.specs.View.{body_view, flow_view, loop_view, param_view, params_view};
 ghost use Rattle.wf_ast.specs.Nodes.{StepPart};
-ghost use Rattle.wf_diagnostics.specs.Answers.{Tells};
+ghost use Rattle.wf_diagnostics.specs.Answers.{IsRuleFault};
 ghost use Rattle.wf_diagnostics.specs.Parts.{part_view};
 ghost use Rattle.wf_diagnostics.specs.Said.{as_said};
 ghost use Rattle.wf_diagnostics.specs.declared.kind.CheckKind.TheVariants as kinds;
@@ -21,7 +21,7 @@ fn is_long(name: &Text) -> bool
 }
 
 fn many_in_loop(alloc: Global, repeated: &LoopBody) -> Result<(), Stop>
-    ensures { Tells result (λ path. as_said kinds.TooMany
+    ensures { IsRuleFault result (λ path. as_said kinds.TooMany
         (rules.loop_many (loop_view repeated.now) path)) }
 {
     let kind = CheckKind::TooMany;
@@ -35,7 +35,7 @@ fn many_in_loop(alloc: Global, repeated: &LoopBody) -> Result<(), Stop>
 }
 
 fn many_in_body(alloc: Global, body: &Body) -> Result<(), Stop>
-    ensures { Tells result (λ path. as_said kinds.TooMany
+    ensures { IsRuleFault result (λ path. as_said kinds.TooMany
         (rules.body_many (body_view body.now) path)) }
 {
     let kind = CheckKind::TooMany;
@@ -74,7 +74,7 @@ fn many_in_body(alloc: Global, body: &Body) -> Result<(), Stop>
 
 /// The parameters of a workflow.
 fn many_params(alloc: Global, params: &[Param]) -> Result<(), Stop>
-    ensures { Tells result (λ path. as_said kinds.TooMany
+    ensures { IsRuleFault result (λ path. as_said kinds.TooMany
         (rules.params_many (map param_view params.now) path 0)) }
 {
     'each: for index in 0..params.len() {
@@ -94,7 +94,7 @@ fn has_too_many(flow: &Flow) -> bool
 }
 
 fn many_in_flow(alloc: Global, flow: &Flow) -> Result<(), Stop>
-    ensures { Tells result (λ path. as_said kinds.TooMany
+    ensures { IsRuleFault result (λ path. as_said kinds.TooMany
         (rules.flow_many (flow_view flow.now) path)) }
 {
     let kind = CheckKind::TooMany;
@@ -112,7 +112,7 @@ fn many_in_flow(alloc: Global, flow: &Flow) -> Result<(), Stop>
 }
 
 fn many_in_step(alloc: Global, step: &Step) -> Result<(), Stop>
-    ensures { Tells result (λ path. as_said kinds.TooMany
+    ensures { IsRuleFault result (λ path. as_said kinds.TooMany
         (rules.part_many (StepPart step.now.name (body_view step.now.body) step.now.next) path)) }
 {
     match speak(alloc, CheckKind::TooMany, is_long(&step.name)) {
@@ -123,7 +123,7 @@ fn many_in_step(alloc: Global, step: &Step) -> Result<(), Stop>
 }
 
 fn many_in_part(alloc: Global, part: &Part) -> Result<(), Stop>
-    ensures { Tells result (λ path. as_said kinds.TooMany
+    ensures { IsRuleFault result (λ path. as_said kinds.TooMany
         (rules.part_many (part_view part.now) path)) }
 {
     match part {
@@ -138,7 +138,7 @@ fn many_in_part(alloc: Global, part: &Part) -> Result<(), Stop>
 
 /// A limit is passed, or this is the first node past 1,000,000.
 pub fn too_many(alloc: Global, part: &Part, number: u64) -> Result<(), Stop>
-    ensures fault { Tells result (λ path. as_said kinds.TooMany
+    ensures fault { IsRuleFault result (λ path. as_said kinds.TooMany
         (rules.rule_many number (part_view part.now) path)) }
     ensures few { OnOk result (number < 1000000) }
 {

@@ -3,7 +3,7 @@ ghost use Rattle.std.specs.Prelude.{◌≡◌, codes, map, option_map};
 ghost use Rattle.wf_ast.specs.Accept as rules;
 ghost use Rattle.wf_ast.specs.Nodes.{below};
 ghost use Rattle.wf_ast.specs.View.{body_view};
-ghost use Rattle.wf_diagnostics.specs.Answers.{Tells};
+ghost use Rattle.wf_diagnostics.specs.Answers.{IsRuleFault};
 ghost use Rattle.wf_symbols.specs.Around.{around_view, layer_view};
 ghost use Rattle.wf_symbols.specs.Names.{names_of};
 ghost use Rattle.wf_diagnostics.specs.Parts.{part_view};
@@ -43,7 +43,7 @@ fn may_write(name: &str, layers: &[Layer]) -> bool
 }
 
 fn undeclared_result(alloc: Global, body: &Body, scopes: &Scopes, here: Here) -> Result<(), Stop>
-    ensures { Tells result (λ path. as_said kinds.UndeclaredWrite
+    ensures { IsRuleFault result (λ path. as_said kinds.UndeclaredWrite
         (rules.write_fault (around_view scopes.now here)
         (rules.result_of_call (rules.call_of (body_view body.now)))
         (below path (codes "result")))) }
@@ -71,7 +71,7 @@ fn undeclared_result(alloc: Global, body: &Body, scopes: &Scopes, here: Here) ->
 
 /// A branch, or the body of a parallel loop, assigns a name from outside that isn't shared.
 pub fn undeclared_write(alloc: Global, part: &Part, scopes: &Scopes, here: Here) -> Result<(), Stop>
-    ensures { Tells result (λ path. as_said kinds.UndeclaredWrite
+    ensures { IsRuleFault result (λ path. as_said kinds.UndeclaredWrite
         (rules.rule_write (around_view scopes.now here) (part_view part.now) path)) }
 {
     match part {
@@ -89,7 +89,7 @@ pub fn undeclared_write(alloc: Global, part: &Part, scopes: &Scopes, here: Here)
 
 /// The first shared name that is of no visible layer.
 fn unseen_shared(alloc: Global, shared: &[Text], layers: &[Layer]) -> Result<(), Stop>
-    ensures { Tells result (λ path. as_said kinds.UnknownShared
+    ensures { IsRuleFault result (λ path. as_said kinds.UnknownShared
         (rules.unknown_shared (map layer_view layers.now) shared.now path 0)) }
 {
     'each: for index in 0..shared.len() {
@@ -101,7 +101,7 @@ fn unseen_shared(alloc: Global, shared: &[Text], layers: &[Layer]) -> Result<(),
 }
 
 fn unseen_shared_in(alloc: Global, body: &Body, layers: &[Layer]) -> Result<(), Stop>
-    ensures { Tells result (λ path. as_said kinds.UnknownShared
+    ensures { IsRuleFault result (λ path. as_said kinds.UnknownShared
         (rules.unknown_shared (map layer_view layers.now) (rules.shared_in (body_view body.now))
         (below (below path (codes "parallel")) (codes "shared")) 0)) }
 {
@@ -125,7 +125,7 @@ fn unseen_shared_in(alloc: Global, body: &Body, layers: &[Layer]) -> Result<(), 
 
 /// A shared name is of no layer outside.
 pub fn unknown_shared(alloc: Global, part: &Part, scopes: &Scopes, here: Here) -> Result<(), Stop>
-    ensures { Tells result (λ path. as_said kinds.UnknownShared
+    ensures { IsRuleFault result (λ path. as_said kinds.UnknownShared
         (rules.rule_shared (around_view scopes.now here) (part_view part.now) path)) }
 {
     let _here = here;

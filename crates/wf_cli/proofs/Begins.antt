@@ -1,12 +1,14 @@
 -- The beginning of an execution for a line.
 use Rattle.std.proofs.Common.{◌≡◌, ◌≤◌, ◌⊎◌, ◌≢◌, inl, inr, ⊎_elim, ℕ, Bool, false, List, [], ◌∷◌, ◌++◌, length, take, None, Result, Ok, Err, IfOk, IfErr, OnOk, IsErrOf, refl, sym, ◌∙◌, ap, subst, arith}
+use Rattle.std.specs.List.{AllByRecursion}
 use Rattle.wf_ast.specs.Tree.{Program}
 use Rattle.wf_cli.proofs.Moments.{early_nothing, early_now, no_turn_of_start, no_turns_next, kept_now, StartOfLine, late_start, late_found}
-use Rattle.wf_cli.proofs.Opens.{MayBegin, no_magic, not_resumed_by_run, no_history_by_run, passed_magic, passed_started, run_uses, run_command, nothing_silently, read_silently}
+use Rattle.wf_cli.proofs.Opens.{no_magic, not_resumed_by_run, no_history_by_run, passed_magic, passed_started, run_uses, run_command, nothing_silently, opening_small, read_silently}
 use Rattle.wf_cli.specs.Reports.{the_reports}
 use Rattle.wf_cli.specs.Said.{DoneSilently, IsOpened, FaultHolds, LateNow, Opening}
 use Rattle.wf_cli.specs.Top.{IsLineOf, HasOtherMagic, IsStarted, IsNotStarted, IsNoHistory}
 use Rattle.wf_cli.proofs.Causes.{not_run_and_resume}
+use Rattle.wf_deeds.specs.Deeds.{IsSmall}
 use Rattle.wf_deeds.specs.Memory.{StandsFor}
 use Rattle.wf_engine.specs.Engine.{memory, OpeningMoment}
 use Rattle.wf_deeds.specs.Kept as kept
@@ -23,7 +25,7 @@ use Rattle.wf_alone.proofs.Begun.{initial_to}
 use Rattle.wf_deeds.specs.Language.{Language}
 use Rattle.wf_deeds.specs.HistoryLaws.{StartIsAHistory}
 use Rattle.wf_deeds.specs.Moments.{NoTurnsBehind, NextBehindHistory}
-use Rattle.wf_engine.specs.Safe.{SafeAt}
+use Rattle.wf_engine.specs.Safe.{SafeAt, Since}
 use Rattle.wf_source.specs.Function.{SourceIsIt}
 use Rattle.wf_source.specs.Programs.{IsSourceOf}
 use Rattle.wf_engine.specs.declared.engine.Engine.{Engine}
@@ -32,6 +34,7 @@ use Rattle.wf_host.specs.Moments.{CountsNow, started, goes_on, goes_on_same, sam
 use Rattle.wf_host.specs.World.{World, LeavesOnly, Only, Elapses, Same}
 use Rattle.wf_host.specs.declared.data.Deed.{Deed}
 use Rattle.wf_host.specs.declared.data.Deed.TheVariants.{Now}
+use Rattle.wf_journal.specs.Journal.{IsJournal}
 use Rattle.wf_journal.specs.Records.{magic, records}
 use Rattle.wf_args.specs.declared.command.Command.TheVariants.{Run}
 use Rattle.wf_deeds.specs.At.{journal, next_session}
@@ -61,10 +64,12 @@ now_moments old mid t only time =
 -- ## An execution that isn't begun
 module _ (O : Outside) (s : Scene) (old : World) (line : IsLineOf s (λ c. c ≡ Run)) where
   -- the opening did nothing but read the clock, and memory ran out
-  pub lacking : (f : EngineFault) (new : World) → DoneSilently old new → LeavesOnly old new (OpeningMoment old) → new.seen ≡ old.seen → f ≡ engine.OutOfMemory → Opening O kept.Run s old new (Err f)
-  lacking f new silently moments seen is = record {
+  pub lacking : (f : EngineFault) (new : World) (silently : DoneSilently old new) → AllByRecursion IsSmall silently.done → LeavesOnly old new (OpeningMoment old) → new.seen ≡ old.seen → f ≡ engine.OutOfMemory → Opening O kept.Run s old new (Err f)
+  lacking f new silently small moments seen is = record {
     silently = silently;
     safe = λ fit. weaker old new (OpeningMoment old) (SafeAt the_language O the_reports s None old) moments (λ c d now. moment_safe c d now);
+    small = weaker old new (OpeningMoment old) (λ image all. Since old all (λ D. AllByRecursion IsSmall D)) moments (opening_small old);
+    small_now = small;
     opened = tt;
     fault = subst (FaultHolds the_language s) (sym is) tt;
     late = λ which. absurd (⊎_elim (λ other. let no : engine.OutOfMemory ≡ engine.AlreadyStarted = sym is ∙ other in cc no) (λ other. let no : engine.OutOfMemory ≡ engine.NotStarted = sym is ∙ other in cc no) which);
@@ -79,10 +84,10 @@ module _ (O : Outside) (s : Scene) (old : World) (line : IsLineOf s (λ c. c ≡
 
   pub no_clock : (f : EngineFault) (new : World) → OnlyNow old → CountsNow old → Elapses Same [] old new → new.seen ≡ old.seen → f ≡ engine.OutOfMemory → Opening O kept.Run s old new (Err f)
   no_clock f new only counts time seen is =
-      lacking f new (nothing_silently old new (same_deeds old new Same time)) (goes_on_same old old new (OpeningMoment old) (before_now old only) counts time) seen is
+      lacking f new (nothing_silently old new (same_deeds old new Same time)) tt (goes_on_same old old new (OpeningMoment old) (before_now old only) counts time) seen is
 
   pub no_start : (f : EngineFault) (new : World) (t : ℕ) → OnlyNow old → Elapses Same (Now t ∷ []) old new → new.seen ≡ old.seen → f ≡ engine.OutOfMemory → Opening O kept.Run s old new (Err f)
-  no_start f new t only time seen is = lacking f new (read_silently old new t time.deeds) (now_moments old new t only time) seen is
+  no_start f new t only time seen is = lacking f new (read_silently old new t time.deeds) (tt, tt) (now_moments old new t only time) seen is
 
 -- ## Beginning
 -- what a beginning promises
@@ -93,8 +98,8 @@ pub record Clauses (O : Outside) (old new : World) (t : ℕ) (payload : List ℕ
   pub any_moment : LeavesOnly old new (λ c d. (old.may_leave c × (d ≡ old.deeds)) ⊎ ((records old.seen ≡ []) × HasNoneOrThis old payload c d))
   pub refused_stays : ((5 ≤ length old.seen) × (take 4 old.seen ≢ magic)) ⊎ (records old.seen ≢ []) → LeavesOnly old new (λ c d. old.may_leave c × (d ≡ old.deeds))
   pub not_a_journal : IsErrOf r engine.NotAJournal → (5 ≤ length old.seen) × (take 4 old.seen ≢ magic)
-  pub a_journal : OnOk r (MayBegin old.seen)
-  pub already_started : IsErrOf r engine.AlreadyStarted → (records old.seen ≢ []) × MayBegin old.seen
+  pub a_journal : OnOk r (IsJournal old.seen)
+  pub already_started : IsErrOf r engine.AlreadyStarted → (records old.seen ≢ []) × IsJournal old.seen
   pub settled : IsErrOf r engine.AlreadyStarted → Only new.seen new.may_leave
   pub fresh : OnOk r (records old.seen ≡ [])
   pub only : IfErr r (λ e. (e ≡ engine.DiskFault) ⊎ (e ≡ engine.NotAJournal) ⊎ (e ≡ engine.AlreadyStarted) ⊎ (e ≡ engine.OutOfMemory))
@@ -108,6 +113,10 @@ module _ (O : Outside) (s : Scene) (old mid new : World) (t : ℕ) (payload : Li
   safe_begin : (c : List ℕ) (d : List Deed) → (mid.may_leave c × (d ≡ mid.deeds)) ⊎ ((records mid.seen ≡ []) × HasNoneOrThis mid payload c d) → SafeAt the_language O the_reports s None old c d
   safe_begin c d (inl (may, is)) = early_now the_language O s old c d t (within old mid (Now t ∷ []) counts time c may) (is ∙ time.deeds)
   safe_begin c d (inr (none, (file, has, is))) = late_start O s old t payload c d law start (ap records (sym found_is) ∙ none) (is ∙ time.deeds) file has
+
+  small_begin : (c : List ℕ) (d : List Deed) → (mid.may_leave c × (d ≡ mid.deeds)) ⊎ ((records mid.seen ≡ []) × HasNoneOrThis mid payload c d) → Since old d (λ D. AllByRecursion IsSmall D)
+  small_begin c d (inl (may, is)) = (Now t ∷ [], is ∙ time.deeds, (tt, tt))
+  small_begin c d (inr (none, (file, has, is))) = (Now t ∷ [], is ∙ time.deeds, (tt, tt))
 
   safe_now : (L : Language) (c : List ℕ) (d : List Deed) → OpeningMoment old c d → SafeAt L O the_reports s None old c d
   safe_now L c d (may, inl is) = early_nothing L O s old c d may is
@@ -126,7 +135,7 @@ module _ (O : Outside) (s : Scene) (old mid new : World) (t : ℕ) (payload : Li
         start = λ is. (start.line, start.bytes, start.reads, (t, (0, omega arith, refl), k.started ∙ ap (λ p. p ∷ []) start.is_start));
         is_of = start.command;
         causes = record {
-          magic = no_magic s (subst MayBegin found_is k.a_journal);
+          magic = no_magic s (subst IsJournal found_is k.a_journal);
           started = λ why. why.1 none;
           not_started = not_resumed_by_run s line;
           history = λ n why. no_history_by_run the_language s n line why;
@@ -153,7 +162,7 @@ module _ (O : Outside) (s : Scene) (old mid new : World) (t : ℕ) (payload : Li
       none (inr (inr (inl is))) = cc is
       none (inr (inr (inr is))) = cc is
   fault_of engine.AlreadyStarted k =
-      let why = subst (λ f. (records f ≢ []) × MayBegin f) found_is (k.already_started refl) in
+      let why = subst (λ f. (records f ≢ []) × IsJournal f) found_is (k.already_started refl) in
       ((line, why.0), passed_started the_language s (no_magic s why.1))
   fault_of engine.NotStarted k = absurd (none k.only)
     where
@@ -207,6 +216,10 @@ module _ (O : Outside) (s : Scene) (old mid new : World) (t : ℕ) (payload : Li
     safe = λ fit.
         joined old mid new (SafeAt the_language O the_reports s None old) _ (weaker old mid (OpeningMoment old) (SafeAt the_language O the_reports s None old) (now_moments old mid t only_now time) (λ c d now. safe_now the_language c d now)) k.any_moment
         (λ c d now. safe_begin c d now);
+    small =
+        joined old mid new (λ image all. Since old all (λ D. AllByRecursion IsSmall D)) _ (weaker old mid (OpeningMoment old) (λ image all. Since old all (λ D. AllByRecursion IsSmall D)) (now_moments old mid t only_now time) (opening_small old)) k.any_moment
+        small_begin;
+    small_now = (tt, tt);
     opened = opened_if r k;
     fault = fault_if r k;
     late = late_if turns next r seen k;

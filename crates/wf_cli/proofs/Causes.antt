@@ -1,7 +1,7 @@
 -- The causes of statuses, and which of them come together.
 use Rattle.std.proofs.Common.{◌≡◌, ◌<◌, inl, inr, IsTrue, ℕ, Bool, true, false, List, None, Some, Result, Ok, Err, refl, sym, ◌∙◌, ap, subst, arith}
 use Rattle.wf_lemmas.proofs.Options.{same_some}
-use Rattle.wf_cli.specs.Top.{IsLineOf, IsBadLine, IsBadArgument, IsRefused, HasOtherMagic, IsStarted, IsNotStarted, IsNoHistory, Reported, TellsHistory, Gives, IsOfFile, Says, bad_line, bad_argument, refused, reported, of_file}
+use Rattle.wf_cli.specs.Top.{IsLineOf, IsBadLine, IsBadArgument, IsRefused, HasOtherMagic, IsStarted, IsNotStarted, IsNoHistory, Reported, TellsHistory, MayPrint, IsOfFile, HasToSay, bad_line, bad_argument, refused, reported, of_file}
 use Rattle.wf_engine.specs.Printed as end
 use Rattle.wf_engine.specs.Printed.{Scene, uses_source, uses_journal, executes, needs_history, status_of, tells_history}
 use Rattle.wf_engine.specs.Starts.{HasArgument}
@@ -214,7 +214,7 @@ outcome_cause L s (Returned v) st is = subst (Cause L s) (same_some (Some status
 outcome_cause L s (Raised e) st is = subst (Cause L s) (same_some (Some status.Raised) status.Raised st refl is) tt
 outcome_cause L s Cancelled st is = let no : None ≡ Some st = is in cc no
 
-pub gives_cause : (L : Language) (s : Scene) (image : List ℕ) (D : List Deed) (st : Status) (text : List ℕ) → Gives L s image D st text → Cause L s st
+pub gives_cause : (L : Language) (s : Scene) (image : List ℕ) (D : List Deed) (st : Status) (text : List ℕ) → MayPrint L s image D st text → Cause L s st
 gives_cause L s image D _ _ (end.bad_line n bad) = bad
 gives_cause L s image D _ _ (end.bad_argument why) = why
 gives_cause L s image D _ _ (end.refused r why) = why
@@ -227,7 +227,7 @@ gives_cause L s image D _ _ (end.ended o st has is) = outcome_cause L s o st is
 gives_cause L s image D _ _ (end.done text report) = tt
 gives_cause L s image D _ _ (end.told text tells) = tt
 
-pub says_cause : (s : Scene) (old new : World) (st : Status) (text : List ℕ) → IsTrue old.tells → Says s old new st text → Cause the_language s st
+pub says_cause : (s : Scene) (old new : World) (st : Status) (text : List ℕ) → IsTrue old.tells → HasToSay s old new st text → Cause the_language s st
 says_cause s old new _ _ told (bad_line n bad) = bad
 says_cause s old new _ _ told (bad_argument why) = why
 says_cause s old new _ _ told (refused r why fine) = why
@@ -242,7 +242,7 @@ outcome_untexted (Returned v) st line is texted = let no : None ≡ Some line = 
 outcome_untexted (Raised e) st line is texted = let no : None ≡ Some line = subst (λ x. status_text x ≡ Some line) (sym (same_some (Some status.Raised) status.Raised st refl is)) texted in cc no
 outcome_untexted Cancelled st line is texted = let no : None ≡ Some st = is in cc no
 
-pub gives_text : (L : Language) (s : Scene) (image : List ℕ) (D : List Deed) (st : Status) (text line : List ℕ) → Gives L s image D st text → status_text st ≡ Some line → text ≡ line
+pub gives_text : (L : Language) (s : Scene) (image : List ℕ) (D : List Deed) (st : Status) (text line : List ℕ) → MayPrint L s image D st text → status_text st ≡ Some line → text ≡ line
 gives_text L s image D _ _ line (end.bad_line n bad) is = same_some (status_text (status.BadLine n)) _ line refl is
 gives_text L s image D _ _ line (end.bad_argument why) is = same_some (status_text status.BadArgument) _ line refl is
 gives_text L s image D _ _ line (end.refused r why) is = same_some (status_text (status.Refused r)) _ line refl is
@@ -255,7 +255,7 @@ gives_text L s image D _ _ line (end.ended o st has which) is = absurd (outcome_
 gives_text L s image D _ _ line (end.done text report) is = let no : None ≡ Some line = is in cc no
 gives_text L s image D _ _ line (end.told text tells) is = let no : None ≡ Some line = is in cc no
 
-pub says_text : (s : Scene) (old new : World) (st : Status) (text line : List ℕ) → IsTrue old.tells → Says s old new st text → status_text st ≡ Some line → text ≡ line
+pub says_text : (s : Scene) (old new : World) (st : Status) (text line : List ℕ) → IsTrue old.tells → HasToSay s old new st text → status_text st ≡ Some line → text ≡ line
 says_text s old new _ _ line told (bad_line n bad) is = same_some (status_text (status.BadLine n)) _ line refl is
 says_text s old new _ _ line told (bad_argument why) is = same_some (status_text status.BadArgument) _ line refl is
 says_text s old new _ _ line told (refused r why fine) is = same_some (status_text (status.Refused r)) _ line refl is
@@ -280,7 +280,7 @@ file_said st (inr (inr (inr (inr (inl is))))) = ap is_said is
 file_said st (inr (inr (inr (inr (inr (inl is)))))) = ap is_said is
 file_said st (inr (inr (inr (inr (inr (inr is)))))) = ap is_said is
 
-pub says_said : (s : Scene) (old new : World) (st : Status) (text : List ℕ) → Says s old new st text → is_said st ≡ true
+pub says_said : (s : Scene) (old new : World) (st : Status) (text : List ℕ) → HasToSay s old new st text → is_said st ≡ true
 says_said s old new _ _ (bad_line n bad) = refl
 says_said s old new _ _ (bad_argument why) = refl
 says_said s old new _ _ (refused r why fine) = refl
@@ -288,7 +288,7 @@ says_said s old new _ _ (reported text report back) = refl
 says_said s old new _ _ (of_file st text is line accepted gives) = file_said st is
 
 -- a status that is said is none of the others
-pub not_said : (s : Scene) (old new : World) (st other : Status) (text : List ℕ) → Says s old new st text → st ≡ other → is_said other ≡ false → ⊥
+pub not_said : (s : Scene) (old new : World) (st other : Status) (text : List ℕ) → HasToSay s old new st text → st ≡ other → is_said other ≡ false → ⊥
 not_said s old new st other text says is isnt = let no : true ≡ false = sym (says_said s old new st text says) ∙ ap is_said is ∙ isnt in cc no
 
 -- ## Ranks
@@ -308,14 +308,14 @@ EarlyCause s status.BadArgument = IsBadArgument s
 EarlyCause s (status.Refused r) = IsRefused s r
 EarlyCause s st = Unit {0}
 
-pub says_early : (s : Scene) (old new : World) (st : Status) (text : List ℕ) → rank st < 5 → Says s old new st text → EarlyCause s st
+pub says_early : (s : Scene) (old new : World) (st : Status) (text : List ℕ) → rank st < 5 → HasToSay s old new st text → EarlyCause s st
 says_early s old new _ _ low (bad_line n bad) = bad
 says_early s old new _ _ low (bad_argument why) = why
 says_early s old new _ _ low (refused r why fine) = why
 says_early s old new _ _ low (reported text report back) = tt
 says_early s old new _ _ low (of_file st text is line accepted gives) = absurd (let r = file_rank st is in let no : ⊥ = omega (arith, r.0, low) in no)
 
-pub text_early : (s : Scene) (old new : World) (st : Status) (text line : List ℕ) → rank st < 5 → Says s old new st text → status_text st ≡ Some line → text ≡ line
+pub text_early : (s : Scene) (old new : World) (st : Status) (text line : List ℕ) → rank st < 5 → HasToSay s old new st text → status_text st ≡ Some line → text ≡ line
 text_early s old new _ _ line low (bad_line n bad) is = same_some (status_text (status.BadLine n)) _ line refl is
 text_early s old new _ _ line low (bad_argument why) is = same_some (status_text status.BadArgument) _ line refl is
 text_early s old new _ _ line low (refused r why fine) is = same_some (status_text (status.Refused r)) _ line refl is

@@ -2,7 +2,7 @@
 use Rattle.std.proofs.Common.{◌≡◌, ◌⊎◌, ⊎_elim, inl, inr, IsTrue, ℕ, Bool, true, false, List, refl, ap, subst}
 use Rattle.wf_cli.proofs.Causes.{not_both, executing, Cause, gives_cause}
 use Rattle.wf_cli.proofs.Rows.{suspended_row}
-use Rattle.wf_cli.specs.Top.{Call, IsLineOf, IsOfFile, Gives, Says, bad_line, bad_argument, refused, reported, of_file, Ends, said, cut, unread, failed, unheard, no_memory, HasNoCause, Completes}
+use Rattle.wf_cli.specs.Top.{Call, IsLineOf, IsOfFile, MayPrint, HasToSay, bad_line, bad_argument, refused, reported, of_file, Ends, said, cut, unread, failed, unheard, no_memory, HasNoCause, Completes}
 use Rattle.wf_engine.specs.Printed as end
 use Rattle.wf_engine.specs.Printed.{Scene, executes}
 use Rattle.wf_host.specs.declared.data.Deed.{Deed}
@@ -19,7 +19,7 @@ is_work status.Raised = true
 is_work status.Suspended = true
 is_work st = false
 
-idle_done : (L : Language) (s : Scene) (image : List ℕ) (D : List Deed) (st : Status) (text : List ℕ) → IsLineOf s (λ c. executes c ≡ false) → Gives L s image D st text → is_work st ≡ true → st ≡ status.Done
+idle_done : (L : Language) (s : Scene) (image : List ℕ) (D : List Deed) (st : Status) (text : List ℕ) → IsLineOf s (λ c. executes c ≡ false) → MayPrint L s image D st text → is_work st ≡ true → st ≡ status.Done
 idle_done L s image D _ _ line (end.bad_line n bad) is = let no : false ≡ true = is in absurd (cc no)
 idle_done L s image D _ _ line (end.bad_argument why) is = let no : false ≡ true = is in absurd (cc no)
 idle_done L s image D _ _ line (end.refused r why) is = let no : false ≡ true = is in absurd (cc no)
@@ -46,14 +46,14 @@ module _ (x : Call) (none : HasNoCause the_language x) where
   of_the_file st (inr (inr (inr (inr (inr (inl is)))))) cause = inl is
   of_the_file st (inr (inr (inr (inr (inr (inr is)))))) cause = inr (inl is)
 
-  says_work : (st : Status) (text : List ℕ) → IsTrue x.old.tells → Says x.scene x.old x.new st text → IsWork st
+  says_work : (st : Status) (text : List ℕ) → IsTrue x.old.tells → HasToSay x.scene x.old x.new st text → IsWork st
   says_work _ _ told (bad_line n bad) = absurd (not_both (line_of x.scene.words) none.line.0 n none.line.1 bad)
   says_work _ _ told (bad_argument why) = absurd (none.argument why)
   says_work _ _ told (refused r why fine) = absurd (none.source r why)
   says_work _ _ told (reported text report back) = inl refl
   says_work _ _ told (of_file st text is line accepted gives) = let g = (gives told).0 in of_the_file st is (gives_cause the_language x.scene x.new.seen g.0 st text g.2)
 
-  says_done : (st : Status) (text : List ℕ) → IsTrue x.old.tells → IsLineOf x.scene (λ c. executes c ≡ false) → Says x.scene x.old x.new st text → st ≡ status.Done
+  says_done : (st : Status) (text : List ℕ) → IsTrue x.old.tells → IsLineOf x.scene (λ c. executes c ≡ false) → HasToSay x.scene x.old x.new st text → st ≡ status.Done
   says_done _ _ told report (bad_line n bad) = absurd (not_both (line_of x.scene.words) none.line.0 n none.line.1 bad)
   says_done _ _ told report (bad_argument why) = absurd (none.argument why)
   says_done _ _ told report (refused r why fine) = absurd (none.source r why)
@@ -67,7 +67,7 @@ module _ (x : Call) (none : HasNoCause the_language x) where
   IsOrLacks P = P ⊎ (x.status ≡ status.OutOfMemory)
 
   -- every end but these two has a cause
-  said_or_lacks : (P : Type 0) → ((text : List ℕ) → Says x.scene x.old x.new x.status text → P) → Ends x → IsOrLacks P
+  said_or_lacks : (P : Type 0) → ((text : List ℕ) → HasToSay x.scene x.old x.new x.status text → P) → Ends x → IsOrLacks P
   said_or_lacks P so (said text says prints) = inl (so text says)
   said_or_lacks P so (cut st text is says (inl rose) some) = absurd (none.prints rose)
   said_or_lacks P so (cut st text is says (inr took) some) = absurd (none.took took)

@@ -4,21 +4,16 @@ use Rattle.std.specs.List.{AllByRecursion}
 use Rattle.std.proofs.lemmas.List.Elements.{All-head, All-tail}
 use Rattle.wf_lemmas.proofs.Bools.{or_more}
 use Rattle.wf_lemmas.proofs.Lists.{all_at}
-use Rattle.wf_cli.specs.Top.{IsPrint}
-use Rattle.wf_deeds.specs.Deeds.{polls, nows, poll_readings, printed, before_poll, was_replied, IsSmall}
+use Rattle.wf_deeds.specs.Deeds.{polls, nows, poll_readings, before_poll, was_replied, IsSmall}
+use Rattle.wf_host.specs.Printing.{AllPrints, IsPrint, printed}
 use Rattle.wf_host.specs.declared.data.Deed.{Deed}
 use Rattle.wf_host.specs.declared.data.Deed.TheVariants.{Start, Poll, Now, Reply, Drop, Print}
-use Rattle.wf_host.specs.Printing as printing
+use Rattle.wf_host.specs.declared.data.Heard.{Heard}
 
 -- ## Prints behind
 pub nows_behind : (D P : List Deed) → AllByRecursion IsPrint P → nows (D ++ P) ≡ nows D
 nows_behind [] [] prints = refl
-nows_behind [] (Start k a b ∷ P) prints = absurd prints.0
-nows_behind [] (Poll u h ∷ P) prints = absurd prints.0
-nows_behind [] (Now t ∷ P) prints = absurd prints.0
-nows_behind [] (Reply n b ∷ P) prints = absurd prints.0
-nows_behind [] (Drop k ∷ P) prints = absurd prints.0
-nows_behind [] (Print b ∷ P) prints = nows_behind [] P prints.1
+nows_behind [] (d ∷ P) prints = ap (λ e. nows (e ∷ P)) prints.0.1 ∙ nows_behind [] P prints.1
 nows_behind (Start k a b ∷ D) P prints = nows_behind D P prints
 nows_behind (Poll u h ∷ D) P prints = nows_behind D P prints
 nows_behind (Now t ∷ D) P prints = ap (λ l. t ∷ l) (nows_behind D P prints)
@@ -28,12 +23,7 @@ nows_behind (Print b ∷ D) P prints = nows_behind D P prints
 
 pub polls_behind : (D P : List Deed) → AllByRecursion IsPrint P → polls (D ++ P) ≡ polls D
 polls_behind [] [] prints = refl
-polls_behind [] (Start k a b ∷ P) prints = absurd prints.0
-polls_behind [] (Poll u h ∷ P) prints = absurd prints.0
-polls_behind [] (Now t ∷ P) prints = absurd prints.0
-polls_behind [] (Reply n b ∷ P) prints = absurd prints.0
-polls_behind [] (Drop k ∷ P) prints = absurd prints.0
-polls_behind [] (Print b ∷ P) prints = polls_behind [] P prints.1
+polls_behind [] (d ∷ P) prints = ap (λ e. polls (e ∷ P)) prints.0.1 ∙ polls_behind [] P prints.1
 polls_behind (Start k a b ∷ D) P prints = polls_behind D P prints
 polls_behind (Poll u h ∷ D) P prints = ap suc (polls_behind D P prints)
 polls_behind (Now t ∷ D) P prints = polls_behind D P prints
@@ -43,12 +33,7 @@ polls_behind (Print b ∷ D) P prints = polls_behind D P prints
 
 pub poll_readings_behind : (D P : List Deed) → AllByRecursion IsPrint P → poll_readings (D ++ P) ≡ poll_readings D
 poll_readings_behind [] [] prints = refl
-poll_readings_behind [] (Start k a b ∷ P) prints = absurd prints.0
-poll_readings_behind [] (Poll u h ∷ P) prints = absurd prints.0
-poll_readings_behind [] (Now t ∷ P) prints = absurd prints.0
-poll_readings_behind [] (Reply n b ∷ P) prints = absurd prints.0
-poll_readings_behind [] (Drop k ∷ P) prints = absurd prints.0
-poll_readings_behind [] (Print b ∷ P) prints = poll_readings_behind [] P prints.1
+poll_readings_behind [] (d ∷ P) prints = ap (λ e. poll_readings (e ∷ P)) prints.0.1 ∙ poll_readings_behind [] P prints.1
 poll_readings_behind (Start k a b ∷ D) P prints = poll_readings_behind D P prints
 poll_readings_behind (Poll u h ∷ D) P prints = ap (λ l. h.reading ∷ l) (poll_readings_behind D P prints)
 poll_readings_behind (Now t ∷ D) P prints = poll_readings_behind D P prints
@@ -84,36 +69,31 @@ printed_both (Reply n b ∷ D) E = printed_both D E
 printed_both (Drop k ∷ D) E = printed_both D E
 printed_both (Print b ∷ D) E = ap (λ l. b ++ l) (printed_both D E) ∙ sym (append_assoc b (printed D) (printed E))
 
--- the bytes that were printed are those that printing tells of
-pub printed_same : (D : List Deed) → printing.printed D ≡ printed D
-printed_same [] = refl
-printed_same (Start k a b ∷ D) = printed_same D
-printed_same (Poll u h ∷ D) = printed_same D
-printed_same (Now t ∷ D) = printed_same D
-printed_same (Reply n b ∷ D) = printed_same D
-printed_same (Drop k ∷ D) = printed_same D
-printed_same (Print b ∷ D) = ap (λ l. b ++ l) (printed_same D)
-
 -- ## All of them
-
-print_is : (d : Deed) → printing.IsPrint d → IsPrint d
-print_is d (b, is) = subst IsPrint (sym is) tt
-
-pub all_prints : (D : List Deed) → printing.AllPrints D → AllByRecursion IsPrint D
+pub all_prints : (D : List Deed) → AllPrints D → AllByRecursion IsPrint D
 all_prints [] all = tt
-all_prints (d ∷ D) all = (print_is d (All-head printing.IsPrint d D all), all_prints D (All-tail printing.IsPrint d D all))
+all_prints (d ∷ D) all = (All-head IsPrint d D all, all_prints D (All-tail IsPrint d D all))
 
 print_small : (d : Deed) → IsPrint d → IsSmall d
-print_small (Start k a b) is = absurd is
-print_small (Poll u h) is = absurd is
-print_small (Now t) is = absurd is
-print_small (Reply n b) is = absurd is
-print_small (Drop k) is = absurd is
-print_small (Print b) is = tt
+print_small d (b, is) = subst IsSmall (sym is) tt
 
 pub prints_small : (D : List Deed) → AllByRecursion IsPrint D → AllByRecursion IsSmall D
 prints_small [] all = tt
 prints_small (d ∷ D) all = (print_small d all.0, prints_small D all.1)
+
+-- small deeds poll nothing
+pub small_polls : (D : List Deed) → AllByRecursion IsSmall D → polls D ≡ 0
+small_polls [] small = refl
+small_polls (Start k a b ∷ D) small = absurd small.0
+small_polls (Poll u h ∷ D) small = absurd small.0
+small_polls (Now t ∷ D) small = small_polls D small.1
+small_polls (Reply n b ∷ D) small = absurd small.0
+small_polls (Drop k ∷ D) small = absurd small.0
+small_polls (Print b ∷ D) small = small_polls D small.1
+
+-- a poll is no print
+pub poll_is_no_print : (until : ℕ) (h : Heard) → ¬ IsPrint (Poll until h)
+poll_is_no_print until h (b, is) = cc is
 
 -- ## A deed among deeds with prints behind
 abbrev first_of : Deed → List Deed → Deed

@@ -2,36 +2,39 @@
 use Rattle.std.proofs.Common.{◌≡◌, ◌≤◌, inl, inr, ⊎_elim, IsTrue, ℕ, true, List, [], ◌∷◌, ◌++◌, Contains, Option, None, Some, Result, Ok, Err, refl, sym, ◌∙◌, ap, subst, append_assoc, arith}
 use Rattle.std.proofs.lemmas.List.{append_cancel_left}
 use Rattle.std.proofs.lemmas.List.Elements.{Contains-append_right}
-use Rattle.std.specs.Prelude.{IfOk}
+use Rattle.std.specs.Prelude.{IfOk, IsErrOf}
 use Rattle.std.specs.List.{AllByRecursion}
-use Rattle.wf_cli.proofs.Deeds.{printed_both, printed_same, all_prints}
+use Rattle.wf_lemmas.proofs.Lists.{all_both}
+use Rattle.wf_cli.proofs.Deeds.{all_prints, polls_behind, printed_both, prints_small}
 use Rattle.wf_cli.proofs.Causes.{no_bad_line, executing}
 use Rattle.wf_cli.proofs.Outsides.{some_outside, in_some}
 use Rattle.wf_cli.proofs.Safe.{IsPlainEnd, plain_end, MayEndBy, IsFront, gives_behind, late_behind, safe_behind}
 use Rattle.wf_cli.proofs.Together.{where_told, when_told}
 use Rattle.wf_cli.specs.Reports.{the_reports}
-use Rattle.wf_cli.specs.Said.{IsEnd, Worked, DoneSilently, LateNow, MayEndNow, Unwritten, Tells, Printing, silent_status, text_of}
-use Rattle.wf_cli.specs.Top.{Call, IsRefused, IsBehindSync, IsPrint, Gives, Says, bad_line, bad_argument, refused, reported, of_file, Ends, said, cut, unread, failed, unheard, no_memory, Prints, PrintsSome, TookNothing, FinishedStays, RefusedStays, ReportsStay, SilentStays, SafeThroughout, SafeAtEnd, LateAtEnd, WritesNothing}
+use Rattle.wf_cli.specs.Said.{IsEnd, MayWrite, Worked, DoneSilently, LateNow, MayEndNow, Unwritten, PrintsSaid, Printing, silent_status, text_of}
+use Rattle.wf_cli.specs.Top.{Call, IsLine, IsOfFile, IsRefused, IsBehindSync, MayPrint, HasToSay, bad_line, bad_argument, refused, reported, of_file, Ends, said, cut, unread, failed, unheard, no_memory, Prints, PrintsSome, TookNothing, FinishedStays, OnlyPrints, PollsWithin, RefusedStays, ReportsStay, SilentStays, SafeThroughout, SafeAtEnd, LateAtEnd, WritesNothing}
+use Rattle.wf_args.specs.Lines.{PlainLine, waits_of}
 use Rattle.wf_cli.specs.declared.end.Said.{Said}
 use Rattle.wf_cli.specs.declared.end.Silence.{Silence}
 use Rattle.wf_cli.specs.declared.end.Silence.TheVariants as silence
-use Rattle.wf_deeds.specs.Deeds.{printed}
+use Rattle.wf_deeds.specs.Deeds.{IsSmall, polls}
 use Rattle.wf_deeds.specs.Outside.{Outside}
 use Rattle.wf_deeds.specs.Rules.{MayEnd, DeedKeepsRules, EndKeepsRules}
 use Rattle.wf_engine.specs.Printed.{Scene, executes}
-use Rattle.wf_engine.specs.Safe.{IsFit, IsLate, Safe, SafeAt, LateAt, session}
+use Rattle.wf_engine.specs.Safe.{IsFit, IsLate, Safe, SafeAt, LateAt, Since, session}
 use Rattle.wf_engine.specs.TheOutside.{InTheOutside}
 use Rattle.wf_host.specs.Moments.{CountsNow, joined}
-use Rattle.wf_host.specs.World.{World, Faults, Told, NoneFell, Rose}
+use Rattle.wf_host.specs.World.{World, Faults, LeavesOnly, Told, NoneFell, Rose}
 use Rattle.wf_host.specs.declared.data.Deed.{Deed}
 use Rattle.wf_host.specs.declared.data.Deed.TheVariants.{Print}
 use Rattle.wf_host.specs.Printing as printing
-use Rattle.wf_host.specs.Printing.{PrintsFront, PrintedSoFar}
+use Rattle.wf_host.specs.Printing.{AllPrints, IsPrint, PrintsFront, PrintedSoFar, printed}
 use Rattle.wf_deeds.specs.Language.{Language}
 use Rattle.wf_replay.specs.TheLanguage.{the_language}
 use Rattle.wf_status.specs.Statuses.{status_code}
 use Rattle.wf_status.specs.declared.Refusal.{Refusal}
 use Rattle.wf_status.specs.declared.Status.{Status}
+use Rattle.wf_status.specs.declared.Status.TheVariants as status
 
 -- a count that rises from a later one rises from an earlier one
 pub rose_from : (a b c : ℕ) → a ≤ b → Rose b c → Rose a c
@@ -46,13 +49,31 @@ le_refl n = omega arith
 pub none_fell : (a b c : Faults) → NoneFell a b → NoneFell b c → NoneFell a c
 none_fell a b c first second = record { disk = omega arith; poll = omega arith; print = omega arith }
 
+-- ## A source that couldn't be read
+-- no command has that to say
+pub never_unread : (s : Scene) (old new : World) (st : Status) (text : List ℕ) → HasToSay s old new st text → st ≡ status.ReadFault → ⊥
+never_unread s old new _ _ (bad_line n bad) is = cc is
+never_unread s old new _ _ (bad_argument why) is = cc is
+never_unread s old new _ _ (refused r why fine) is = cc is
+never_unread s old new _ _ (reported text report back) is = cc is
+never_unread s old new _ _ (of_file st text file line taken gives) is = never file is
+  where
+    never : IsOfFile st → st ≡ status.ReadFault → ⊥
+    never (inl other) is = let no : status.NotAJournal ≡ status.ReadFault = sym other ∙ is in cc no
+    never (inr (inl other)) is = let no : status.AlreadyStarted ≡ status.ReadFault = sym other ∙ is in cc no
+    never (inr (inr (inl other))) is = let no : status.NotStarted ≡ status.ReadFault = sym other ∙ is in cc no
+    never (inr (inr (inr (inl (n, other))))) is = let no : status.NotAHistory n ≡ status.ReadFault = sym other ∙ is in cc no
+    never (inr (inr (inr (inr (inl other))))) is = let no : status.Suspended ≡ status.ReadFault = sym other ∙ is in cc no
+    never (inr (inr (inr (inr (inr (inl other)))))) is = let no : status.Done ≡ status.ReadFault = sym other ∙ is in cc no
+    never (inr (inr (inr (inr (inr (inr other)))))) is = let no : status.Raised ≡ status.ReadFault = sym other ∙ is in cc no
+
 -- ## What is printed
 -- the deeds since a moment are those of the work and then the prints
 deeds_behind : (old mid new : World) (D P : List Deed) → mid.deeds ≡ old.deeds ++ D → new.deeds ≡ mid.deeds ++ P → new.deeds ≡ old.deeds ++ (D ++ P)
 deeds_behind old mid new D P is more = more ∙ ap (λ l. l ++ P) is ∙ append_assoc old.deeds D P
 
-printed_behind : (D P : List Deed) → printed D ≡ [] → printing.printed P ≡ printed (D ++ P)
-printed_behind D P silent = printed_same P ∙ sym (printed_both D P ∙ ap (λ l. l ++ printed P) silent)
+printed_behind : (D P : List Deed) → printed D ≡ [] → printed P ≡ printed (D ++ P)
+printed_behind D P silent = sym (printed_both D P ∙ ap (λ l. l ++ printed P) silent)
 
 -- the file stays, and nothing but prints is done
 pub record OnlyPrinted (mid new : World) : Type 0 where
@@ -68,7 +89,7 @@ only_printed mid new text p = of p.printed
     of (P, is, (all, front)) = record { seen = p.seen; done = P; deeds = is; prints = all_prints P all }
 
 -- what was said of the file and of the deeds behind the work is said of those behind the prints
-says_later : (s : Scene) (old mid new : World) (st : Status) (text : List ℕ) → Told old (OnlyPrinted mid new) → Says s old mid st text → Says s old new st text
+says_later : (s : Scene) (old mid new : World) (st : Status) (text : List ℕ) → Told old (OnlyPrinted mid new) → HasToSay s old mid st text → HasToSay s old new st text
 says_later s old mid new _ _ same (bad_line n bad) = bad_line n bad
 says_later s old mid new _ _ same (bad_argument why) = bad_argument why
 says_later s old mid new _ _ same (refused r why fine) = refused r why fine
@@ -77,7 +98,7 @@ says_later s old mid new _ _ same (of_file st text is line accepted gives) =
     of_file st text is line accepted (λ told.
     let g = gives told in
     let more = same told in
-    ((g.0.0 ++ more.done, deeds_behind old mid new g.0.0 more.done g.0.1 more.deeds, subst (λ f. Gives the_language s f (g.0.0 ++ more.done) st text) (sym more.seen) (gives_behind the_language the_reports s mid.seen g.0.0 more.done st text more.prints g.0.2)), g.1))
+    ((g.0.0 ++ more.done, deeds_behind old mid new g.0.0 more.done g.0.1 more.deeds, subst (λ f. MayPrint the_language s f (g.0.0 ++ more.done) st text) (sym more.seen) (gives_behind the_language the_reports s mid.seen g.0.0 more.done st text more.prints g.0.2)), g.1))
 
 -- ## How the call ends
 module _ (x : Call) (mid : World) (reads2 : ℕ) (faults2 : Faults) (tells : mid.tells ≡ x.old.tells) where
@@ -105,10 +126,10 @@ module _ (x : Call) (mid : World) (reads2 : ℕ) (faults2 : Faults) (tells : mid
   nothing : (did : Told x.old (DoneSilently x.old mid)) → Told mid (x.new.deeds ≡ mid.deeds) → Prints x []
   nothing did same told = let w = did told in (w.done, same (still told) ∙ w.deeds, w.silent)
 
-  pub ends : (r : Result Said Silence) → IsEnd x.scene x.old mid x.reads_old reads2 x.faults_old faults2 r → Told x.old (DoneSilently x.old mid) → Tells r mid x.new faults2 x.faults_new x.status
+  pub ends : (r : Result Said Silence) → IsEnd x.scene x.old mid x.reads_old reads2 x.faults_old faults2 r → Told x.old (DoneSilently x.old mid) → PrintsSaid r mid x.new faults2 x.faults_new x.status
       → Told x.old (OnlyPrinted mid x.new) → reads2 ≤ x.reads_new → NoneFell x.faults_old faults2 → NoneFell faults2 x.faults_new → Ends x
   ends (Ok it) is did (inl (same, prints)) seen reads before after =
-      said it.text.items (subst (λ st. Says x.scene x.old x.new st it.text.items) (sym same) (says_later x.scene x.old mid x.new it.status it.text.items seen is)) (whole did it.text.items prints)
+      said it.text.items (subst (λ st. HasToSay x.scene x.old x.new st it.text.items) (sym same) (says_later x.scene x.old mid x.new it.status it.text.items seen is)) (whole did it.text.items prints)
   ends (Ok it) is did (inr (same, why, prints)) seen reads before after =
       cut it.status it.text.items same (says_later x.scene x.old mid x.new it.status it.text.items seen is)
       (⊎_elim (λ rose. inl (rose_from x.faults_old.print faults2.print x.faults_new.print before.print rose)) (λ took. inr (took_nothing did took)) why) (some did it.text.items prints)
@@ -122,15 +143,15 @@ module _ (x : Call) (mid : World) (reads2 : ℕ) (faults2 : Faults) (tells : mid
 -- ## What a crash may leave
 module _ (x : Call) (mid : World) (r : Result Said Silence) (w : InTheOutside (λ O. Worked O x.scene x.old mid r)) (p : Printing (text_of r) mid x.new) (counts_mid : CountsNow mid) (counts_new : CountsNow x.new) (deed : DeedKeepsRules) (end : EndKeepsRules) where
   -- what was printed by then is the front of a text that the command has cause to print
-  front : (L : Language) (image : List ℕ) (D P : List Deed) (q : Result Said Silence) → IfOk q (λ it. Gives L x.scene image D it.status it.text.items) → (rest : List ℕ) → text_of q ≡ printing.printed P ++ rest → IsFront L the_reports x.scene image D P
-  front L image D P (Ok it) gives rest is = inr (it.status, it.text.items, gives, (rest, is ∙ ap (λ l. l ++ rest) (printed_same P)))
-  front L image D P (Err s) gives rest is = inl (nil (printed P) rest (is ∙ ap (λ l. l ++ rest) (printed_same P)))
+  front : (L : Language) (image : List ℕ) (D P : List Deed) (q : Result Said Silence) → IfOk q (λ it. MayPrint L x.scene image D it.status it.text.items) → (rest : List ℕ) → text_of q ≡ printed P ++ rest → IsFront L the_reports x.scene image D P
+  front L image D P (Ok it) gives rest is = inr (it.status, it.text.items, gives, (rest, is))
+  front L image D P (Err s) gives rest is = inl (nil (printed P) rest is)
     where
       nil : (a b : List ℕ) → [] ≡ a ++ b → a ≡ []
       nil [] b is = refl
       nil (y ∷ a) b is = absurd (cc is)
 
-  given : (L : Language) (D : List Deed) (q : Result Said Silence) (image : List ℕ) → IfOk q (λ it. (c : List ℕ) → mid.may_leave c → Gives L x.scene c D it.status it.text.items) → mid.may_leave image → IfOk q (λ it. Gives L x.scene image D it.status it.text.items)
+  given : (L : Language) (D : List Deed) (q : Result Said Silence) (image : List ℕ) → IfOk q (λ it. (c : List ℕ) → mid.may_leave c → MayPrint L x.scene c D it.status it.text.items) → mid.may_leave image → IfOk q (λ it. MayPrint L x.scene image D it.status it.text.items)
   given L D (Ok it) image gives may = gives image may
   given L D (Err s) image gives may = tt
 
@@ -182,7 +203,7 @@ module _ (x : Call) (mid : World) (r : Result Said Silence) (w : InTheOutside (�
   silent_plain silence.OutOfMemory = (omega arith, omega arith, omega arith)
 
   -- the call may end with its status, as the work may with what it says
-  may_end_of : (O : Outside) (q : Result Said Silence) (f g : Faults) (c : List ℕ) → IfOk q (λ it. MayEndNow the_language O x.scene x.old mid it.status) → Tells q mid x.new f g x.status → mid.may_leave c
+  may_end_of : (O : Outside) (q : Result Said Silence) (f g : Faults) (c : List ℕ) → IfOk q (λ it. MayEndNow the_language O x.scene x.old mid it.status) → PrintsSaid q mid x.new f g x.status → mid.may_leave c
       → (D : List Deed) → mid.deeds ≡ x.old.deeds ++ D → MayEnd the_language O (session the_language O the_reports x.scene None c D) (status_code x.status)
   may_end_of O (Ok it) f g c ends (inl (same, prints)) may D is =
       let at = ends c may in
@@ -197,10 +218,10 @@ module _ (x : Call) (mid : World) (r : Result Said Silence) (w : InTheOutside (�
   at_end : (image : List ℕ) → x.new.may_leave image → PrintedSoFar mid (text_of r) image x.new.deeds
   at_end image may = p.moments.each image x.new.deeds (counts_new mid.moment image p.moments.later may)
 
-  ends_so : (O : Outside) (f g : Faults) (image : List ℕ) → Tells r mid x.new f g x.status → x.new.may_leave image → MayEnd the_language O (session the_language O the_reports x.scene None image (w O).silently.done) (status_code x.status)
+  ends_so : (O : Outside) (f g : Faults) (image : List ℕ) → PrintsSaid r mid x.new f g x.status → x.new.may_leave image → MayEnd the_language O (session the_language O the_reports x.scene None image (w O).silently.done) (status_code x.status)
   ends_so O f g image tells may = may_end_of O r f g image (w O).ends tells (at_end image may).0 (w O).silently.done (w O).silently.deeds
 
-  pub safe_at_end : (f g : Faults) → Tells r mid x.new f g x.status → SafeAtEnd the_language x
+  pub safe_at_end : (f g : Faults) → PrintsSaid r mid x.new f g x.status → SafeAtEnd the_language x
   safe_at_end f g tells fit = λ O image may.
       safe_print O (Some x.status) image x.new.deeds (at_end image may) (ends_so O f g image tells may) (at_work O image fit (at_end image may).0)
 
@@ -211,13 +232,13 @@ module _ (x : Call) (mid : World) (r : Result Said Silence) (w : InTheOutside (�
   silent_early silence.PollFault behind = behind
   silent_early silence.OutOfMemory behind = behind
 
-  late_of : (O : Outside) (q : Result Said Silence) (f g : Faults) → IfOk q (λ it. IsBehindSync x.scene it.status → LateNow the_language O x.scene x.old mid) → Tells q mid x.new f g x.status → IsBehindSync x.scene x.status
+  late_of : (O : Outside) (q : Result Said Silence) (f g : Faults) → IfOk q (λ it. IsBehindSync x.scene it.status → LateNow the_language O x.scene x.old mid) → PrintsSaid q mid x.new f g x.status → IsBehindSync x.scene x.status
       → LateNow the_language O x.scene x.old mid
   late_of O (Ok it) f g late (inl (same, prints)) behind = late (subst (IsBehindSync x.scene) same behind)
   late_of O (Ok it) f g late (inr (same, why, prints)) behind = absurd (subst (IsBehindSync x.scene) same behind)
   late_of O (Err e) f g late (same, none) behind = absurd (silent_early e (subst (IsBehindSync x.scene) same behind))
 
-  pub late_at_end : (f g : Faults) → Tells r mid x.new f g x.status → LateAtEnd the_language x
+  pub late_at_end : (f g : Faults) → PrintsSaid r mid x.new f g x.status → LateAtEnd the_language x
   late_at_end f g tells behind fit = λ O image may.
       late_print O (Some x.status) image x.new.deeds (at_end image may) (ends_so O f g image tells may) (late_of O r f g (w O).late tells behind fit image (at_end image may).0)
 
@@ -231,24 +252,63 @@ module _ (x : Call) (mid : World) (r : Result Said Silence) (w : InTheOutside (�
     p.seen ∙ seen,
   )
 
-  only_prints : mid.deeds ≡ x.old.deeds → PrintsFront mid x.new (text_of r) → (D : List Deed) × (x.new.deeds ≡ x.old.deeds ++ D) × AllByRecursion IsPrint D
-  only_prints none (P, is, (all, front)) = (P, is ∙ ap (λ l. l ++ P) none, all_prints P all)
+  only_prints : mid.deeds ≡ x.old.deeds → PrintsFront mid x.new (text_of r) → (D : List Deed) × (x.new.deeds ≡ x.old.deeds ++ D) × AllPrints D
+  only_prints none (P, is, (all, front)) = (P, is ∙ ap (λ l. l ++ P) none, all)
+
+  -- where the command may not write, nothing but prints is done
+  silent : ¬ MayWrite x.scene → OnlyPrints x
+  silent never = (⊎_elim unwritten (λ may. absurd (never may)) work.writes, only_prints (work.idle never) p.printed)
 
   pub finished_stays : FinishedStays the_language x
   finished_stays st line is ended =
       let it = work.finished st line is ended in
       (unwritten it.0, only_prints it.1 p.printed)
 
+  -- readings of the clock, and then prints
+  small_prints : AllByRecursion IsSmall work.silently.done → PrintsFront mid x.new (text_of r) → (D : List Deed) × (x.new.deeds ≡ x.old.deeds ++ D) × AllByRecursion IsSmall D
+  small_prints small (P, is, (all, front)) =
+      (work.silently.done ++ P, deeds_behind x.old mid x.new work.silently.done P work.silently.deeds is, all_both IsSmall work.silently.done P small (prints_small P (all_prints P all)))
+
   pub refused_stays : RefusedStays the_language x
-  refused_stays why = unwritten (work.refused why)
+  refused_stays why = let it = work.refused why in (unwritten it.0, small_prints it.1 p.printed)
 
   -- a line that may write, and why none may
   pub reports_stay : ReportsStay x
-  reports_stay line = (⊎_elim unwritten (λ may. absurd (executing x.scene may.0 line)) work.writes, only_prints (work.idle (inl line)) p.printed)
+  reports_stay line = silent (λ may. executing x.scene may.0 line)
 
-  pub silent_stays : SilentStays x
-  silent_stays = record {
-    bad_line = λ n bad. ⊎_elim unwritten (λ may. absurd (no_bad_line x.scene (λ c. executes c ≡ true) n may.0 bad)) work.writes;
-    bad_argument = λ bad. (⊎_elim unwritten (λ may. absurd (may.1.argument bad)) work.writes, only_prints (work.idle (inr bad)) p.printed);
-    refused = where_told x.scene.source _ (λ left told q why. ⊎_elim unwritten (λ may. absurd (when_told x.scene.source left ((z : Refusal) → ¬ IsRefused x.scene z) told may.1.source q why)) work.writes);
+  -- a source that couldn't be read
+  unread_work : (q : Result Said Silence) (a b : ℕ) (f g h : Faults) → IsEnd x.scene x.old mid a b f g q → PrintsSaid q mid x.new g h x.status → x.status ≡ status.ReadFault → IsErrOf q silence.Unread
+  unread_work (Ok it) a b f g h is (inl (same, prints)) is_so = absurd (never_unread x.scene x.old mid it.status it.text.items is (sym same ∙ is_so))
+  unread_work (Ok it) a b f g h is (inr (same, why, prints)) is_so = let no : status.PrintFault ≡ status.ReadFault = sym same ∙ is_so in absurd (cc no)
+  unread_work (Err silence.Unread) a b f g h is (same, none) is_so = refl
+  unread_work (Err silence.DiskFault) a b f g h is (same, none) is_so = let no : status.DiskFault ≡ status.ReadFault = sym same ∙ is_so in absurd (cc no)
+  unread_work (Err silence.PollFault) a b f g h is (same, none) is_so = let no : status.PollFault ≡ status.ReadFault = sym same ∙ is_so in absurd (cc no)
+  unread_work (Err silence.OutOfMemory) a b f g h is (same, none) is_so = let no : status.OutOfMemory ≡ status.ReadFault = sym same ∙ is_so in absurd (cc no)
+
+  pub silent_stays : (a b : ℕ) (f g h : Faults) → IsEnd x.scene x.old mid a b f g r → PrintsSaid r mid x.new g h x.status → SilentStays x
+  silent_stays a b f g h is tells = record {
+    bad_line = λ n bad. silent (λ may. no_bad_line x.scene (λ c. executes c ≡ true) n may.0 bad);
+    bad_argument = λ bad. silent (λ may. may.1.argument bad);
+    refused = where_told x.scene.source _ (λ left told q why. silent (λ may. when_told x.scene.source left ((z : Refusal) → ¬ IsRefused x.scene z) told may.1.source q why));
+    unread = λ is_so. let it = work.unread (unread_work r a b f g h is tells is_so) in (unwritten it.0, only_prints it.1 p.printed);
+  }
+
+  -- ## How often it polls
+  polled_behind : (n : ℕ) (c : List ℕ) (d : List Deed) → Since x.old mid.deeds (λ D. polls D ≤ n) → PrintedSoFar mid (text_of r) c d → Since x.old d (λ D. polls D ≤ n)
+  polled_behind n c d (D, is, few) (may, (P, more, (all, front))) = (
+    D ++ P,
+    more ∙ ap (λ l. l ++ P) is ∙ append_assoc x.old.deeds D P,
+    let same = polls_behind D P (all_prints P all) in omega (arith, same, few),
+  )
+
+  polled_by : (l : PlainLine) → IsLine x.scene l → LeavesOnly x.old x.new (λ image all. Since x.old all (λ D. polls D ≤ waits_of l))
+  polled_by l is =
+      let so_far = work.polled l is in
+      joined x.old mid x.new (λ image all. Since x.old all (λ D. polls D ≤ waits_of l)) (PrintedSoFar mid (text_of r)) so_far p.moments
+      (λ c d now. polled_behind (waits_of l) c d (so_far.each c mid.deeds (counts_mid x.old.moment c so_far.later now.0)) now)
+
+  pub polls_within : x.new.may_leave x.new.seen → PollsWithin x
+  polls_within reads = record {
+    moments = polled_by;
+    at_end = λ l is. let all = polled_by l is in all.each x.new.seen x.new.deeds (counts_new x.old.moment x.new.seen all.later reads);
   }

@@ -65,8 +65,8 @@ abbrev pub SaysEnd : Language → Outside → kept.Command → Memory → ℕ �
 SaysEnd L O command m waits D new done it = SaysHistory L waits new done it × MayEnd L O (session command false m (records new.seen) (D ++ done)) (status_code it.status)
 
 -- at the last moment of a call nothing was printed
-silently_of : (L : Language) (O : Outside) (command : kept.Command) (m : Memory) (D : List Deed) (old new : World) → LeavesOnly old new (Moment old (KeptAt L O command false m (records old.seen) D)) → CountsNow new → new.may_leave new.seen → DoneSilently old new
-silently_of L O command m D old new moments counts reads =
+silently_of : (L : Language) (O : Outside) (command : kept.Command) (m : Memory) (waits : ℕ) (D : List Deed) (old new : World) → LeavesOnly old new (Moment old (KeptAt L O command false m waits (records old.seen) D)) → CountsNow new → new.may_leave new.seen → DoneSilently old new
+silently_of L O command m waits D old new moments counts reads =
     let last = moments.each new.seen new.deeds (counts old.moment new.seen moments.later reads) in
     record { done = last.0; deeds = last.1; silent = last.3.silent }
 
@@ -109,10 +109,10 @@ both_said : (r : Result Said Silence) (P Q : Said → Type 0) → IfOk r (λ it.
 both_said (Ok it) P Q both = both
 both_said (Err e) P Q both = (tt, tt)
 
-pub going : (L : Language) (O : Outside) (command : kept.Command) (m : Memory) (waits : ℕ) (D : List Deed) (old new : World) (r : Result Said Silence) → LeavesOnly old new (Moment old (KeptAt L O command false m (records old.seen) D)) → CountsNow new → new.may_leave new.seen
+pub going : (L : Language) (O : Outside) (command : kept.Command) (m : Memory) (waits : ℕ) (D : List Deed) (old new : World) (r : Result Said Silence) → LeavesOnly old new (Moment old (KeptAt L O command false m waits (records old.seen) D)) → CountsNow new → new.may_leave new.seen
     → (m.config.outcome ≢ Active → Unwritten old new × (new.deeds ≡ old.deeds)) → ((silently : DoneSilently old new) → IfOk r (SaysEnd L O command m waits D new silently.done)) → Going L O command m waits D old new r
 going L O command m waits D old new r moments counts reads finished says =
-    let silently = silently_of L O command m D old new moments counts reads in
+    let silently = silently_of L O command m waits D old new moments counts reads in
     let both = both_said r _ _ (says silently) in
     record { moments = moments; silently = silently; said = both.0; ends = both.1; finished = finished }
 

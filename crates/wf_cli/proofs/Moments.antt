@@ -9,7 +9,8 @@ use Rattle.wf_cli.proofs.Safe.{no_start, no_deed, of_command}
 use Rattle.wf_cli.specs.Reports.{the_reports}
 use Rattle.wf_cli.specs.Said.{IsOpened}
 use Rattle.wf_deeds.specs.Clauses.{IsOfSession, KeptAt}
-use Rattle.wf_deeds.specs.Deeds.{nows, printed, IsSmall}
+use Rattle.wf_deeds.specs.Deeds.{nows, IsSmall}
+use Rattle.wf_host.specs.Printing.{printed}
 use Rattle.wf_engine.specs.Engine.{memory}
 use Rattle.wf_deeds.specs.Kept as kept
 use Rattle.wf_deeds.specs.Kept.{Kept, own}
@@ -155,9 +156,9 @@ late_start O s old t payload c d only start none is file has = (
 
 -- ## Going on
 -- a moment of an execution that was opened
-pub late_going : (L : Language) (O : Outside) (s : Scene) (command : kept.Command) (old mid : World) (done : List Deed) (e : Engine) (c : List ℕ) (d : List Deed) → IsOpened L O command s done mid e → mid.deeds ≡ old.deeds ++ done → printed done ≡ []
-    → Moment mid (KeptAt L O command false (memory e) (records mid.seen) done) c d → LateAt L O the_reports s None old c d
-late_going L O s command old mid done e c d opened deeds silent (E, is, begins, k) = (
+pub late_going : (L : Language) (O : Outside) (s : Scene) (command : kept.Command) (waits : ℕ) (old mid : World) (done : List Deed) (e : Engine) (c : List ℕ) (d : List Deed) → IsOpened L O command s done mid e → mid.deeds ≡ old.deeds ++ done → printed done ≡ []
+    → Moment mid (KeptAt L O command false (memory e) waits (records mid.seen) done) c d → LateAt L O the_reports s None old c d
+late_going L O s command waits old mid done e c d opened deeds silent (E, is, begins, k) = (
   done ++ E,
   is ∙ ap (λ l. l ++ E) deeds ∙ append_assoc old.deeds done E,
   record {

@@ -1,5 +1,6 @@
 -- The opening of a file for a line.
 use Rattle.std.proofs.Common.{◌≡◌, ◌≤◌, ◌⊎◌, ◌≢◌, inl, inr, ℕ, true, false, List, [], ◌∷◌, ◌++◌, length, take, None, Result, Ok, Err, IfOk, IfErr, OnOk, IsErrOf, refl, sym, ◌∙◌, ap, subst, arith}
+use Rattle.std.specs.List.{AllByRecursion}
 use Rattle.std.proofs.lemmas.List.{append-nil, append_cancel_left}
 use Rattle.wf_cli.proofs.Causes.{not_both, not_run_and_needs, not_run_and_resume, resume_needs}
 use Rattle.wf_cli.proofs.Moments.{early_nothing, early_now, kept_now, kept_still, late_found, no_turns_of_none, reads_none_of_none}
@@ -8,7 +9,8 @@ use Rattle.wf_cli.specs.Reports.{the_reports}
 use Rattle.wf_cli.specs.Said.{DoneSilently, IsOpened, FaultHolds, LateNow, Opening, Unwritten}
 use Rattle.wf_cli.specs.Top.{IsLineOf, HasOtherMagic, IsStarted, IsNotStarted, IsNoHistory, IsPassed, HasNoCauseInFile}
 use Rattle.wf_deeds.specs.Clauses.{Opened}
-use Rattle.wf_deeds.specs.Deeds.{polls, printed}
+use Rattle.wf_deeds.specs.Deeds.{IsSmall, polls}
+use Rattle.wf_host.specs.Printing.{printed}
 use Rattle.wf_deeds.specs.Kept as kept
 use Rattle.wf_deeds.specs.Kept.{Kept}
 use Rattle.wf_deeds.specs.Laws.{OnlyReadings}
@@ -16,12 +18,13 @@ use Rattle.wf_deeds.specs.Memory.{StandsFor}
 use Rattle.wf_deeds.specs.Outside.{Outside}
 use Rattle.wf_engine.specs.Engine.{memory, OpeningMoment}
 use Rattle.wf_engine.specs.Printed.{Scene, uses_journal}
-use Rattle.wf_engine.specs.Safe.{SafeAt, command_of, command_by}
+use Rattle.wf_engine.specs.Safe.{SafeAt, Since, command_of, command_by}
 use Rattle.wf_engine.specs.declared.engine.Engine.{Engine}
 use Rattle.wf_host.specs.Moments.{weaker}
 use Rattle.wf_host.specs.World.{World, LeavesOnly, Only}
 use Rattle.wf_host.specs.declared.data.Deed.{Deed}
 use Rattle.wf_host.specs.declared.data.Deed.TheVariants.{Now}
+use Rattle.wf_journal.specs.Journal.{IsJournal}
 use Rattle.wf_journal.specs.Records.{magic, records}
 use Rattle.wf_args.specs.Lines.{line_of}
 use Rattle.wf_args.specs.declared.command.Command.TheVariants.{Run, Resume}
@@ -36,10 +39,7 @@ use Rattle.wf_status.specs.declared.Status.{Status}
 use Rattle.wf_status.specs.declared.Status.TheVariants as status
 
 -- ## Causes
-abbrev pub MayBegin : List ℕ → Type 0
-MayBegin file = (length file ≤ 4) ⊎ (take 4 file ≡ magic)
-
-pub no_magic : (s : Scene) → MayBegin s.found → ¬ HasOtherMagic s
+pub no_magic : (s : Scene) → IsJournal s.found → ¬ HasOtherMagic s
 no_magic s (inl short) why = let long = why.1 in omega (arith, short, long)
 no_magic s (inr begins) why = why.2 begins
 
@@ -107,6 +107,11 @@ nothing_silently old new is = record { done = []; deeds = is ∙ sym (append-nil
 abbrev pub read_silently : (old new : World) (t : ℕ) → new.deeds ≡ old.deeds ++ Now t ∷ [] → DoneSilently old new
 read_silently old new t is = record { done = Now t ∷ []; deeds = is; silent = refl }
 
+-- by a moment of an opening nothing was sent or awaited
+pub opening_small : (old : World) (c : List ℕ) (d : List Deed) → OpeningMoment old c d → Since old d (λ D. AllByRecursion IsSmall D)
+opening_small old c d (may, inl is) = ([], is ∙ sym (append-nil old.deeds), tt)
+opening_small old c d (may, inr (t, is)) = (Now t ∷ [], is, (tt, tt))
+
 -- the first records of what is found are those of an empty front
 pub no_record_no_history : (L : Language) (J : List (List ℕ)) (st : Standing) → history L J ≡ Ok st → J ≡ [] → ⊥
 unfolding history
@@ -129,7 +134,7 @@ pub record Clauses (O : Outside) (old new : World) (r : Result Engine EngineFaul
   pub seen : new.seen ≡ old.seen
   pub any_moment : LeavesOnly old new (OpeningMoment old)
   pub not_a_journal : IsErrOf r engine.NotAJournal → (5 ≤ length old.seen) × (take 4 old.seen ≢ magic)
-  pub not_started : IsErrOf r engine.NotStarted → (records old.seen ≡ []) × MayBegin old.seen
+  pub not_started : IsErrOf r engine.NotStarted → (records old.seen ≡ []) × IsJournal old.seen
   pub settled : IsErrOf r engine.NotStarted → Only new.seen new.may_leave
   pub not_a_history : IfErr r (λ e. (n : ℕ) → e ≡ engine.NotAHistory n → (history the_language (records old.seen) ≡ Err n) × (records old.seen ≢ []) × (take 4 old.seen ≡ magic))
   pub only : IfErr r (λ e. (e ≡ engine.DiskFault) ⊎ (e ≡ engine.NotAJournal) ⊎ (e ≡ engine.NotStarted) ⊎ ((n : ℕ) × (e ≡ engine.NotAHistory n)) ⊎ (e ≡ engine.OutOfMemory))
@@ -144,6 +149,11 @@ module _ (O : Outside) (s : Scene) (old new : World) (line : IsLineOf s (λ c. c
   silently_of : (new.deeds ≡ old.deeds) ⊎ ((t : ℕ) × (new.deeds ≡ old.deeds ++ Now t ∷ [])) → DoneSilently old new
   silently_of (inl is) = nothing_silently old new is
   silently_of (inr (t, is)) = read_silently old new t is
+
+  small_of : (one : (new.deeds ≡ old.deeds) ⊎ ((t : ℕ) × (new.deeds ≡ old.deeds ++ Now t ∷ []))) → AllByRecursion IsSmall (silently_of one).done
+  unfolding silently_of
+  small_of (inl is) = tt
+  small_of (inr (t, is)) = (tt, tt)
 
   -- an opening polls nothing
   unpolled_of : (D : List Deed) → (new.deeds ≡ old.deeds) ⊎ ((t : ℕ) × (new.deeds ≡ old.deeds ++ Now t ∷ [])) → new.deeds ≡ old.deeds ++ D → polls D ≡ 0
@@ -202,7 +212,7 @@ module _ (O : Outside) (s : Scene) (old new : World) (line : IsLineOf s (λ c. c
       none (inr (inr (inr (inl (n, is))))) = cc is
       none (inr (inr (inr (inr is)))) = cc is
   fault_of engine.NotStarted k =
-      let why = subst (λ f. (records f ≡ []) × MayBegin f) found (k.not_started refl) in
+      let why = subst (λ f. (records f ≡ []) × IsJournal f) found (k.not_started refl) in
       ((resume_needs s line, why.0), passed_not_started the_language s (no_magic s why.1) (not_started_by_resume s line))
   fault_of engine.Suspended k = absurd (none k.only)
     where
@@ -257,6 +267,8 @@ module _ (O : Outside) (s : Scene) (old new : World) (line : IsLineOf s (λ c. c
       record {
         silently = silently;
         safe = λ fit. weaker old new (OpeningMoment old) (SafeAt the_language O the_reports s None old) k.any_moment (λ c d now. moment_safe the_language c d now);
+        small = weaker old new (OpeningMoment old) (λ image all. Since old all (λ D. AllByRecursion IsSmall D)) k.any_moment (opening_small old);
+        small_now = small_of k.deeds;
         opened = opened_if r silently.done silently.deeds k;
         fault = fault_if r k;
         late = late_if only r k;

@@ -3,10 +3,11 @@ use Rattle.std.proofs.Common.{◌≡◌, ◌≤◌, ◌≢◌, ℕ, suc, true, f
 use Rattle.std.specs.Prelude.{IfErr, IsErr, IsErrAnd, IsErrOf, OnOk, String, string_bytes}
 use Rattle.std.specs.declared.alloc.Global.{Global}
 use Rattle.wf_cli.specs.Reports.{the_reports}
-use Rattle.wf_cli.specs.Said.{ReadsJournal, TellsOf, text_by}
+use Rattle.wf_cli.specs.Said.{ReadsJournal, IsToldOf, text_by}
 use Rattle.wf_engine.specs.Printed as end
 use Rattle.wf_engine.specs.Printed.{TellsHistory, tells_history}
 use Rattle.wf_host.specs.World.{World, Only, LeavesOnly}
+use Rattle.wf_journal.specs.Journal.{IsJournal}
 use Rattle.wf_journal.specs.Records.{magic, records}
 use Rattle.wf_deeds.specs.History.{history}
 use Rattle.wf_deeds.specs.HistoryLaws.{IsHistory}
@@ -18,30 +19,30 @@ use Rattle.wf_model.specs.Config.{Config}
 use Rattle.wf_replay.specs.TheLanguage.{the_language}
 use Rattle.wf_replay.specs.declared.engine_fault.EngineFault.TheVariants as engine
 use Rattle.wf_replay.specs.declared.engine_fault.EngineFault.{EngineFault}
-use Rattle.wf_report.specs.Journals.{LeadsTo, MayHaveRecords, Shows}
+use Rattle.wf_report.specs.Journals.{Reaches, Shows}
 use Rattle.wf_report.specs.Texts as texts
 
 -- ## What is told
 -- the lines of a configuration, of the whole history and of a front of it, and those of its log
-tells_shown : (l : PlainLine) (J : List (List ℕ)) (c : Config) (text : List ℕ) → l.command ≡ Show → LeadsTo the_language J c → text ≡ texts.shown c → TellsOf l J text
+tells_shown : (l : PlainLine) (J : List (List ℕ)) (c : Config) (text : List ℕ) → l.command ≡ Show → Reaches the_language J c → text ≡ texts.shown c → IsToldOf l J text
 unfolding the_reports
 tells_shown l J c text command (st, is, same) shows = λ s line found.
     subst (TellsHistory the_language the_reports s) (sym (shows ∙ ap texts.shown (sym same))) (end.shown st (l, line, command) (subst (λ K. history the_language K ≡ Ok st) (sym found) is))
 
-pub tells_stood : (l : PlainLine) (J : List (List ℕ)) (text : List ℕ) → l.command ≡ At → Shows the_language J (turn_of l) text → TellsOf l J text
+pub tells_stood : (l : PlainLine) (J : List (List ℕ)) (text : List ℕ) → l.command ≡ At → Shows the_language J (turn_of l) text → IsToldOf l J text
 unfolding the_reports
 tells_stood l J text command (c, stands, shows) = λ s line found.
     let front = stands.front in
     subst (TellsHistory the_language the_reports s) (sym (shows ∙ ap texts.shown (sym front.2)))
     (end.stood l stands.whole front.0 line command (subst (λ K. history the_language K ≡ Ok stands.whole) (sym found) stands.is_history) (subst (λ K. history the_language (take (suc (turn_of l)) K) ≡ Ok front.0) (sym found) front.1))
 
-tells_logged : (l : PlainLine) (J : List (List ℕ)) (c : Config) (text : List ℕ) → l.command ≡ Log → LeadsTo the_language J c → text ≡ texts.logged (word_of Grep l) c.log → TellsOf l J text
+tells_logged : (l : PlainLine) (J : List (List ℕ)) (c : Config) (text : List ℕ) → l.command ≡ Log → Reaches the_language J c → text ≡ texts.logged (word_of Grep l) c.log → IsToldOf l J text
 unfolding the_reports
 tells_logged l J c text command (st, is, same) logs = λ s line found.
     subst (TellsHistory the_language the_reports s) (sym (logs ∙ ap (λ (d : Config). texts.logged (word_of Grep l) d.log) (sym same))) (end.logged l st line command (subst (λ K. history the_language K ≡ Ok st) (sym found) is))
 
 -- of the two commands that tell of the whole
-tells_by : (k : Command) (l : PlainLine) (J : List (List ℕ)) (c : Config) (text : List ℕ) → l.command ≡ k → tells_history k ≡ true → k ≢ At → LeadsTo the_language J c → text ≡ text_by k (word_of Grep l) c → TellsOf l J text
+tells_by : (k : Command) (l : PlainLine) (J : List (List ℕ)) (c : Config) (text : List ℕ) → l.command ≡ k → tells_history k ≡ true → k ≢ At → Reaches the_language J c → text ≡ text_by k (word_of Grep l) c → IsToldOf l J text
 tells_by Check l J c text is tells other leads says = let no : false ≡ true = tells in absurd (cc no)
 tells_by Format l J c text is tells other leads says = let no : false ≡ true = tells in absurd (cc no)
 tells_by Run l J c text is tells other leads says = let no : false ≡ true = tells in absurd (cc no)
@@ -52,7 +53,7 @@ tells_by Log l J c text is tells other leads says = tells_logged l J c text is l
 tells_by Help l J c text is tells other leads says = let no : false ≡ true = tells in absurd (cc no)
 tells_by Version l J c text is tells other leads says = let no : false ≡ true = tells in absurd (cc no)
 
-pub tells_whole : (l : PlainLine) (J : List (List ℕ)) (c : Config) (text : List ℕ) → tells_history l.command ≡ true → l.command ≢ At → LeadsTo the_language J c → text ≡ text_by l.command (word_of Grep l) c → TellsOf l J text
+pub tells_whole : (l : PlainLine) (J : List (List ℕ)) (c : Config) (text : List ℕ) → tells_history l.command ≡ true → l.command ≢ At → Reaches the_language J c → text ≡ text_by l.command (word_of Grep l) c → IsToldOf l J text
 tells_whole l J c text tells other leads says = tells_by l.command l J c text refl tells other leads says
 
 -- ## How it was read
@@ -60,7 +61,7 @@ tells_whole l J c text tells other leads says = tells_by l.command l J c text re
 pub record ReadsFile {T : Type 0} (old new : World) (r : Result T EngineFault) : Type 0 where
   pub begins : OnOk r (take 4 old.seen ≡ magic)
   pub not_a_journal : IsErrOf r engine.NotAJournal → (5 ≤ length old.seen) × (take 4 old.seen ≢ magic)
-  pub not_started : IsErrOf r engine.NotStarted → (records old.seen ≡ []) × MayHaveRecords old.seen
+  pub not_started : IsErrOf r engine.NotStarted → (records old.seen ≡ []) × IsJournal old.seen
   pub not_a_history : IfErr r (λ e. (n : ℕ) → e ≡ engine.NotAHistory n → (history the_language (records old.seen) ≡ Err n) × (records old.seen ≢ []) × (take 4 old.seen ≡ magic))
   pub settled : OnOk r (Only new.seen new.may_leave)
   pub settled_empty : IsErrOf r engine.NotStarted → Only new.seen new.may_leave
@@ -109,7 +110,7 @@ lacks_read l old new q (Err e) k gives = record {
 }
 
 -- and where there is one
-pub text_read : {T : Type 0} (l : PlainLine) (old new : World) (q : Result T EngineFault) (x : T) (text : String Global) → ReadsFile old new q → q ≡ Ok x → IsHistory the_language (records old.seen) → TellsOf l (records old.seen) (string_bytes text) → ReadsJournal l old new (Ok text)
+pub text_read : {T : Type 0} (l : PlainLine) (old new : World) (q : Result T EngineFault) (x : T) (text : String Global) → ReadsFile old new q → q ≡ Ok x → IsHistory the_language (records old.seen) → IsToldOf l (records old.seen) (string_bytes text) → ReadsJournal l old new (Ok text)
 text_read l old new q x text k is history tells =
     let j = subst (ReadsFile old new) is k in
     record {

@@ -4,7 +4,7 @@ use Rattle.std.specs.Prelude.{codes, decimal}
 use Rattle.wf_lemmas.proofs.Options.{same_some}
 use Rattle.wf_cli.proofs.Causes.{same_ok, no_bad_line, one_command, executing, not_both_journals, check_reports, executes_line, format_reports, idle_tells, needs_line, run_executes, reported_idle, reported_line, telling_line, tells_line, Cause, says_cause, says_text, EarlyCause, says_early, text_early, not_said}
 use Rattle.wf_cli.proofs.Together.{IsOrBefore, where_bad_line, where_bad_argument, where_told, when_told, where_refused, where_of_file, where_no_history, at_magic, at_started, at_not_started}
-use Rattle.wf_cli.specs.Top.{Call, IsLineOf, IsBadArgument, IsRefused, IsChecked, HasOutcome, IsSuspended, Reported, Gives, IsTaken, IsOfFile, ComesBack, Says, bad_line, bad_argument, refused, reported, of_file, Ends, said, cut, unread, failed, unheard, no_memory, Prints, IsOrYields, Exactly, BadLineRow, BadArgumentRow, ReadFaultRow, RefusedRow, DiskFaultRow, NotAJournalRow, AlreadyStartedRow, NotStartedRow, NotAHistoryRow, WaitsNoMore, SuspendedRow, OutcomeRow, DoneRow, TellingRow, TellsHistory, AcceptedRow, ComesBackRow, PrintFaultRow, PollFaultRow, IsPassed}
+use Rattle.wf_cli.specs.Top.{Call, IsLineOf, IsBadArgument, IsRefused, IsChecked, HasOutcome, IsSuspended, Reported, MayPrint, IsTaken, IsOfFile, ComesBack, HasToSay, bad_line, bad_argument, refused, reported, of_file, Ends, said, cut, unread, failed, unheard, no_memory, Prints, IsOrYields, Exactly, BadLineRow, BadArgumentRow, ReadFaultRow, RefusedRow, DiskFaultRow, NotAJournalRow, AlreadyStartedRow, NotStartedRow, NotAHistoryRow, WaitsNoMore, SuspendedRow, OutcomeRow, DoneRow, TellingRow, TellsHistory, AcceptedRow, ComesBackRow, PrintFaultRow, PollFaultRow, IsPassed}
 use Rattle.wf_engine.specs.Printed as end
 use Rattle.wf_engine.specs.Printed.{Scene, uses_source, uses_journal, executes, status_of, tells_history, outcome_text, accepted_text}
 use Rattle.wf_engine.specs.Safe.{Since}
@@ -27,7 +27,7 @@ use Rattle.wf_yaml_write.specs.Layout.{written}
 
 -- ## What a status has
 -- a status that comes with each end, unless an earlier cause came
-pub yields : (x : Call) (st : Status) → Ends x → ((other : Status) (text : List ℕ) → Says x.scene x.old x.new other text → IsOrBefore st other) → (IsLineOf x.scene (λ c. uses_source c ≡ true) → ¬ IsBadArgument x.scene → 2 < rank st)
+pub yields : (x : Call) (st : Status) → Ends x → ((other : Status) (text : List ℕ) → HasToSay x.scene x.old x.new other text → IsOrBefore st other) → (IsLineOf x.scene (λ c. uses_source c ≡ true) → ¬ IsBadArgument x.scene → 2 < rank st)
     → (IsLineOf x.scene (λ c. uses_journal c ≡ true) → IsTaken x.scene → 4 < rank st) → (IsLineOf x.scene (λ c. executes c ≡ true) → IsTaken x.scene → Told x.old (IsPassed the_language x.scene status.PollFault) → 9 < rank st) → IsOrYields x st
 yields x st (said text says prints) one reads disk polls = ⊎_elim (λ is. inl is) (λ low. inr (inl low)) (one x.status text says)
 yields x st (cut other text is says why some) one reads disk polls = inr (inr (inl is))
@@ -117,7 +117,7 @@ refused_row law apart x ends =
 
 -- of a status of the file
 file_row : (x : Call) (st : Status) (line : List ℕ) → IsTrue x.old.tells → Ends x → status_text st ≡ Some line → 4 < rank st
-    → ((other : Status) (text : List ℕ) → Cause the_language x.scene st → Says x.scene x.old x.new other text → IsOrBefore st other) → (IsPassed the_language x.scene status.PollFault → ¬ Cause the_language x.scene st) → Exactly x st (Cause the_language x.scene st) line
+    → ((other : Status) (text : List ℕ) → Cause the_language x.scene st → HasToSay x.scene x.old x.new other text → IsOrBefore st other) → (IsPassed the_language x.scene status.PollFault → ¬ Cause the_language x.scene st) → Exactly x st (Cause the_language x.scene st) line
 file_row x st line told ends texted low before never = record {
   comes = λ is. subst (Cause the_language x.scene) is (cause_told x line told ends (texted_as x st line texted is));
   only = λ why. yields x st ends (λ other text says. before other text why says) (λ run fine. omega (arith, low)) (λ runs taken. low) (λ runs taken passed. absurd (never (passed told) why));
@@ -207,7 +207,7 @@ outcome_rank status.Suspended is = let no : false ≡ true = is in absurd (cc no
 outcome_rank status.OutOfMemory is = let no : false ≡ true = is in absurd (cc no)
 
 -- Done and Raised are told of an outcome, where a command executes
-outcome_of_gives : (L : Language) (s : Scene) (image : List ℕ) (D : List Deed) (st : Status) (text : List ℕ) → IsLineOf s (λ c. executes c ≡ true) → Gives L s image D st text → is_outcome st ≡ true
+outcome_of_gives : (L : Language) (s : Scene) (image : List ℕ) (D : List Deed) (st : Status) (text : List ℕ) → IsLineOf s (λ c. executes c ≡ true) → MayPrint L s image D st text → is_outcome st ≡ true
     → (o : Outcome) × HasOutcome L s image o × (status_of o ≡ Some st) × (text ≡ outcome_text o)
 outcome_of_gives L s image D _ _ line (end.bad_line n bad) is = let no : false ≡ true = is in absurd (cc no)
 outcome_of_gives L s image D _ _ line (end.bad_argument why) is = let no : false ≡ true = is in absurd (cc no)
@@ -221,7 +221,7 @@ outcome_of_gives L s image D _ _ line (end.ended o st has which) is = (o, has, w
 outcome_of_gives L s image D _ _ line (end.done text report) is = absurd (executing s line (reported_idle s text report))
 outcome_of_gives L s image D _ _ line (end.told text tells) is = absurd (executing s line (idle_tells s (telling_line L s text tells)))
 
-outcome_of_says : (s : Scene) (old new : World) (st : Status) (text : List ℕ) → IsTrue old.tells → IsLineOf s (λ c. executes c ≡ true) → Says s old new st text → is_outcome st ≡ true
+outcome_of_says : (s : Scene) (old new : World) (st : Status) (text : List ℕ) → IsTrue old.tells → IsLineOf s (λ c. executes c ≡ true) → HasToSay s old new st text → is_outcome st ≡ true
     → (o : Outcome) × HasOutcome the_language s new.seen o × (status_of o ≡ Some st) × (text ≡ outcome_text o)
 outcome_of_says s old new _ _ told line (bad_line n bad) is = let no : false ≡ true = is in absurd (cc no)
 outcome_of_says s old new _ _ told line (bad_argument why) is = let no : false ≡ true = is in absurd (cc no)
@@ -255,7 +255,7 @@ low_or_outcome other st (inr (inr (inr (inr (inl is))))) equal = inl (let r = ap
 low_or_outcome other st (inr (inr (inr (inr (inr (inl is)))))) equal = inr (ap is_outcome is)
 low_or_outcome other st (inr (inr (inr (inr (inr (inr is)))))) equal = inr (ap is_outcome is)
 
-where_outcome : (s : Scene) (old new : World) (o : Outcome) (st other : Status) (text : List ℕ) → IsTrue old.tells → status_of o ≡ Some st → HasOutcome the_language s new.seen o → Says s old new other text → IsOrBefore st other
+where_outcome : (s : Scene) (old new : World) (o : Outcome) (st other : Status) (text : List ℕ) → IsTrue old.tells → status_of o ≡ Some st → HasOutcome the_language s new.seen o → HasToSay s old new other text → IsOrBefore st other
 where_outcome s old new o st _ _ told which has (bad_line n bad) = inr (let r = outcome_rank st (outcome_status o st which) in omega (arith, r))
 where_outcome s old new o st _ _ told which has (bad_argument why) = inr (let r = outcome_rank st (outcome_status o st which) in omega (arith, r))
 where_outcome s old new o st _ _ told which has (refused q why fine) = inr (let r = outcome_rank st (outcome_status o st which) in omega (arith, r))
@@ -275,7 +275,7 @@ outcome_row x told ends = record {
 
 -- ## No outcome
 -- what is said where there is none tells of the file and of the deeds
-suspended_of_gives : (L : Language) (s : Scene) (image : List ℕ) (D : List Deed) (st : Status) (text : List ℕ) → Gives L s image D st text → st ≡ status.Suspended → IsSuspended L s image D
+suspended_of_gives : (L : Language) (s : Scene) (image : List ℕ) (D : List Deed) (st : Status) (text : List ℕ) → MayPrint L s image D st text → st ≡ status.Suspended → IsSuspended L s image D
 suspended_of_gives L s image D _ _ (end.bad_line n bad) is = absurd (cc is)
 suspended_of_gives L s image D _ _ (end.bad_argument why) is = absurd (cc is)
 suspended_of_gives L s image D _ _ (end.refused r why) is = absurd (cc is)
@@ -288,7 +288,7 @@ suspended_of_gives L s image D _ _ (end.ended o st has which) is = let no : fals
 suspended_of_gives L s image D _ _ (end.done text report) is = absurd (cc is)
 suspended_of_gives L s image D _ _ (end.told text tells) is = absurd (cc is)
 
-suspended_of_says : (s : Scene) (old new : World) (st : Status) (text : List ℕ) → IsTrue old.tells → Says s old new st text → st ≡ status.Suspended → Since old new.deeds (λ D. IsSuspended the_language s new.seen D)
+suspended_of_says : (s : Scene) (old new : World) (st : Status) (text : List ℕ) → IsTrue old.tells → HasToSay s old new st text → st ≡ status.Suspended → Since old new.deeds (λ D. IsSuspended the_language s new.seen D)
 suspended_of_says s old new _ _ told (bad_line n bad) is = absurd (cc is)
 suspended_of_says s old new _ _ told (bad_argument why) is = absurd (cc is)
 suspended_of_says s old new _ _ told (refused r why fine) is = absurd (cc is)
@@ -318,7 +318,7 @@ low_suspended_or_outcome other (inr (inr (inr (inr (inl is))))) = inl (inl is)
 low_suspended_or_outcome other (inr (inr (inr (inr (inr (inl is)))))) = inr (ap is_outcome is)
 low_suspended_or_outcome other (inr (inr (inr (inr (inr (inr is)))))) = inr (ap is_outcome is)
 
-where_suspended : (s : Scene) (old new : World) (D : List Deed) (other : Status) (text : List ℕ) → IsTrue old.tells → IsSuspended the_language s new.seen D → Says s old new other text → IsOrBefore status.Suspended other
+where_suspended : (s : Scene) (old new : World) (D : List Deed) (other : Status) (text : List ℕ) → IsTrue old.tells → IsSuspended the_language s new.seen D → HasToSay s old new other text → IsOrBefore status.Suspended other
 where_suspended s old new D _ _ told why (bad_line n bad) = inr (omega arith)
 where_suspended s old new D _ _ told why (bad_argument bad) = inr (omega arith)
 where_suspended s old new D _ _ told why (refused q is fine) = inr (omega arith)
@@ -338,7 +338,7 @@ suspended_row x told ends =
     }
 
 -- ## Reports
-report_of_says : (s : Scene) (old new : World) (st : Status) (text : List ℕ) → Says s old new st text → IsLineOf s (λ c. uses_journal c ≡ false) → st ≡ status.Done → Reported s text
+report_of_says : (s : Scene) (old new : World) (st : Status) (text : List ℕ) → HasToSay s old new st text → IsLineOf s (λ c. uses_journal c ≡ false) → st ≡ status.Done → Reported s text
 report_of_says s old new _ _ (bad_line n bad) line is = absurd (cc is)
 report_of_says s old new _ _ (bad_argument why) line is = absurd (cc is)
 report_of_says s old new _ _ (refused r why fine) line is = absurd (cc is)
@@ -353,7 +353,7 @@ done_comes x (failed it rline accepted rose prints) line is = let no : status.Di
 done_comes x (unheard it rline accepted passed rose prints) line is = let no : status.PollFault ≡ status.Done = sym it ∙ is in absurd (cc no)
 done_comes x (no_memory it prints) line is = let no : status.OutOfMemory ≡ status.Done = sym it ∙ is in absurd (cc no)
 
-where_reported : (s : Scene) (old new : World) (shown : List ℕ) (other : Status) (text : List ℕ) → Reported s shown → Says s old new other text → IsOrBefore status.Done other
+where_reported : (s : Scene) (old new : World) (shown : List ℕ) (other : Status) (text : List ℕ) → Reported s shown → HasToSay s old new other text → IsOrBefore status.Done other
 where_reported s old new shown _ _ report (bad_line n bad) = inr (omega arith)
 where_reported s old new shown _ _ report (bad_argument why) = inr (omega arith)
 where_reported s old new shown _ _ report (refused q why fine) = inr (omega arith)
@@ -367,7 +367,7 @@ done_row x ends = record {
 }
 
 -- ## Histories that are told of
-telling_of_gives : (L : Language) (s : Scene) (image : List ℕ) (D : List Deed) (st : Status) (text : List ℕ) → IsLineOf s (λ c. tells_history c ≡ true) → Gives L s image D st text → is_outcome st ≡ true → TellsHistory L s text × (st ≡ status.Done)
+telling_of_gives : (L : Language) (s : Scene) (image : List ℕ) (D : List Deed) (st : Status) (text : List ℕ) → IsLineOf s (λ c. tells_history c ≡ true) → MayPrint L s image D st text → is_outcome st ≡ true → TellsHistory L s text × (st ≡ status.Done)
 telling_of_gives L s image D _ _ line (end.bad_line n bad) is = let no : false ≡ true = is in absurd (cc no)
 telling_of_gives L s image D _ _ line (end.bad_argument why) is = let no : false ≡ true = is in absurd (cc no)
 telling_of_gives L s image D _ _ line (end.refused r why) is = let no : false ≡ true = is in absurd (cc no)
@@ -380,7 +380,7 @@ telling_of_gives L s image D _ _ line (end.ended o st has which) is = absurd (ex
 telling_of_gives L s image D _ _ line (end.done text report) is = absurd (not_both_journals s (needs_line s (tells_line s line)) (reported_line s text report))
 telling_of_gives L s image D _ _ line (end.told text tells) is = (tells, refl)
 
-telling_of_says : (s : Scene) (old new : World) (st : Status) (text : List ℕ) → IsTrue old.tells → IsLineOf s (λ c. tells_history c ≡ true) → Says s old new st text → st ≡ status.Done → TellsHistory the_language s text
+telling_of_says : (s : Scene) (old new : World) (st : Status) (text : List ℕ) → IsTrue old.tells → IsLineOf s (λ c. tells_history c ≡ true) → HasToSay s old new st text → st ≡ status.Done → TellsHistory the_language s text
 telling_of_says s old new _ _ told line (bad_line n bad) is = absurd (cc is)
 telling_of_says s old new _ _ told line (bad_argument why) is = absurd (cc is)
 telling_of_says s old new _ _ told line (refused r why fine) is = absurd (cc is)
@@ -395,7 +395,7 @@ telling_comes x told (failed it rline accepted rose prints) line is = let no : s
 telling_comes x told (unheard it rline accepted passed rose prints) line is = let no : status.PollFault ≡ status.Done = sym it ∙ is in absurd (cc no)
 telling_comes x told (no_memory it prints) line is = let no : status.OutOfMemory ≡ status.Done = sym it ∙ is in absurd (cc no)
 
-where_telling : (s : Scene) (old new : World) (shown : List ℕ) (other : Status) (text : List ℕ) → IsTrue old.tells → TellsHistory the_language s shown → Says s old new other text → IsOrBefore status.Done other
+where_telling : (s : Scene) (old new : World) (shown : List ℕ) (other : Status) (text : List ℕ) → IsTrue old.tells → TellsHistory the_language s shown → HasToSay s old new other text → IsOrBefore status.Done other
 where_telling s old new shown _ _ told tells (bad_line n bad) = inr (omega arith)
 where_telling s old new shown _ _ told tells (bad_argument why) = inr (omega arith)
 where_telling s old new shown _ _ told tells (refused q why fine) = inr (omega arith)
@@ -429,7 +429,7 @@ accepted_row x ends = record {
 }
 
 -- ## Layouts
-layout_of_says : (s : Scene) (old new : World) (st : Status) (text : List ℕ) → Says s old new st text → IsLineOf s (λ c. c ≡ Format) → st ≡ status.Done → (t : Tree) × ComesBack s t × (text ≡ written t)
+layout_of_says : (s : Scene) (old new : World) (st : Status) (text : List ℕ) → HasToSay s old new st text → IsLineOf s (λ c. c ≡ Format) → st ≡ status.Done → (t : Tree) × ComesBack s t × (text ≡ written t)
 layout_of_says s old new _ _ (bad_line n bad) line is = absurd (cc is)
 layout_of_says s old new _ _ (bad_argument why) line is = absurd (cc is)
 layout_of_says s old new _ _ (refused r why fine) line is = absurd (cc is)

@@ -3,13 +3,13 @@ use Rattle.std.proofs.Common.{◌≡◌, ◌≤◌, ◌⊎◌, ◌≢◌, inl, i
 use Rattle.std.specs.List.{AllByRecursion}
 use Rattle.std.proofs.lemmas.List.{append-nil}
 use Rattle.wf_lemmas.proofs.Lists.{all_both}
-use Rattle.wf_cli.proofs.Deeds.{nows_behind, polls_behind, poll_readings_behind, printed_both, prints_small, before_prints, replied_behind}
-use Rattle.wf_cli.specs.Top.{IsPrint}
-use Rattle.wf_deeds.specs.Deeds.{polls, nows, poll_readings, greatest, reading_by, starts_or_polls, printed, was_replied, before_poll, IsSmall}
+use Rattle.wf_cli.proofs.Deeds.{nows_behind, polls_behind, poll_readings_behind, printed_both, poll_is_no_print, prints_small, before_prints, replied_behind}
+use Rattle.wf_deeds.specs.Deeds.{polls, nows, poll_readings, greatest, reading_by, starts_or_polls, was_replied, before_poll, IsSmall}
+use Rattle.wf_host.specs.Printing.{IsPrint, printed}
 use Rattle.wf_deeds.specs.Kept.{Command, Session, Kept, Answers, Decides, config, last_of}
 use Rattle.wf_deeds.specs.Outside.{Outside}
 use Rattle.wf_deeds.specs.Rules.{AnswersStand, RepliesAreMade, MayEnd, DeedKeepsRules, EndKeepsRules}
-use Rattle.wf_engine.specs.Printed.{Scene, Reports, Reads, Gives, bad_line, bad_argument, refused, not_a_journal, already_started, not_started, not_a_history, suspended, ended, done, told}
+use Rattle.wf_engine.specs.Printed.{Scene, Reports, Reads, MayPrint, bad_line, bad_argument, refused, not_a_journal, already_started, not_started, not_a_history, suspended, ended, done, told}
 use Rattle.wf_engine.specs.Safe.{IsPrefix, session, StartIsOfTheLine, PrintedIsOutcome, IsLate, Safe}
 use Rattle.wf_engine.specs.Starts.{start_of}
 use Rattle.wf_events.specs.Records.{Started}
@@ -68,13 +68,13 @@ module _ (L : Language) (O : Outside) (payloads : List (List ℕ)) (number : ℕ
 
   answers_behind : AnswersStand L O without → AnswersStand L O behind
   answers_behind stand front back until h k a c comes ans at still =
-      let there = before_prints D P front back (Poll until h) prints (λ no. no) comes in
+      let there = before_prints D P front back (Poll until h) prints (poll_is_no_print until h) comes in
       let same : Answers L O without front (Poll until h) h.what k a = record { of_call = ans.of_call; now = ans.now; not_yet = ans.not_yet } in
       stand front there.0 until h k a c there.1 same at still
 
   replies_behind : RepliesAreMade L O without → RepliesAreMade L O behind
   replies_behind made front back until h d v comes dec =
-      let there = before_prints D P front back (Poll until h) prints (λ no. no) comes in
+      let there = before_prints D P front back (Poll until h) prints (poll_is_no_print until h) comes in
       let same : Decides L O without front h.what d v = record { decides = dec.decides; config = dec.config; at = dec.at; verdict = dec.verdict } in
       subst (λ l. was_replied d.visit (before_poll l) ≡ true) (sym there.2) (replied_behind d.visit there.0 P (made front there.0 until h d v there.1 same))
 
@@ -92,14 +92,10 @@ module _ (L : Language) (O : Outside) (payloads : List (List ℕ)) (number : ℕ
 -- ## The rules
 prints_kept : DeedKeepsRules → (L : Language) (O : Outside) (payloads : List (List ℕ)) (number : ℕ) (D P : List Deed) (command : Command) → AllByRecursion IsPrint P → Kept L O (of_command payloads number D command None) → Kept L O (of_command payloads number (D ++ P) command None)
 prints_kept law L O payloads number D [] command prints kept = subst (λ E. Kept L O (of_command payloads number E command None)) (sym (append-nil D)) kept
-prints_kept law L O payloads number D (Start k a b ∷ P) command prints kept = absurd prints.0
-prints_kept law L O payloads number D (Poll u h ∷ P) command prints kept = absurd prints.0
-prints_kept law L O payloads number D (Now t ∷ P) command prints kept = absurd prints.0
-prints_kept law L O payloads number D (Reply n b ∷ P) command prints kept = absurd prints.0
-prints_kept law L O payloads number D (Drop k ∷ P) command prints kept = absurd prints.0
-prints_kept law L O payloads number D (Print b ∷ P) command prints kept =
-    let one = law L O (of_command payloads number D command None) (Print b) kept refl tt in
-    subst (λ E. Kept L O (of_command payloads number E command None)) (append_assoc D (Print b ∷ []) P) (prints_kept law L O payloads number (D ++ Print b ∷ []) P command prints.1 one)
+prints_kept law L O payloads number D (d ∷ P) command prints kept =
+    let (b, is) = prints.0 in
+    let one = subst (λ e. Kept L O (of_command payloads number (D ++ e ∷ []) command None)) (sym is) (law L O (of_command payloads number D command None) (Print b) kept refl tt) in
+    subst (λ E. Kept L O (of_command payloads number E command None)) (append_assoc D (d ∷ []) P) (prints_kept law L O payloads number (D ++ d ∷ []) P command prints.1 one)
 
 -- a command that goes on, or may end with this status
 abbrev pub MayEndBy : Language → Outside → Session → Option Status → Type 0
@@ -114,7 +110,7 @@ kept_behind deed end L O payloads number D P command (Some st) prints may kept =
 
 -- ## What is printed
 -- a cause holds with prints behind too
-pub gives_behind : (L : Language) (R : Reports) (s : Scene) (image : List ℕ) (D P : List Deed) (st : Status) (text : List ℕ) → AllByRecursion IsPrint P → Gives L R s image D st text → Gives L R s image (D ++ P) st text
+pub gives_behind : (L : Language) (R : Reports) (s : Scene) (image : List ℕ) (D P : List Deed) (st : Status) (text : List ℕ) → AllByRecursion IsPrint P → MayPrint L R s image D st text → MayPrint L R s image (D ++ P) st text
 gives_behind L R s image D P _ _ prints (bad_line n why) = bad_line n why
 gives_behind L R s image D P _ _ prints (bad_argument why) = bad_argument why
 gives_behind L R s image D P _ _ prints (refused r why) = refused r why
@@ -129,7 +125,7 @@ gives_behind L R s image D P _ _ prints (told text tells) = told text tells
 
 -- what these prints printed is the front of a text that the command has cause to print behind these deeds
 abbrev pub IsFront : Language → Reports → Scene → List ℕ → List Deed → List Deed → Type 0
-IsFront L R s image D P = (printed P ≡ []) ⊎ ((st : Status) × (text : List ℕ) × Gives L R s image D st text × IsPrefix (printed P) text)
+IsFront L R s image D P = (printed P ≡ []) ⊎ ((st : Status) × (text : List ℕ) × MayPrint L R s image D st text × IsPrefix (printed P) text)
 
 -- ## Safe moments
 module _ (L : Language) (O : Outside) (R : Reports) (s : Scene) (e : Option Status) (deed : DeedKeepsRules) (end : EndKeepsRules) where

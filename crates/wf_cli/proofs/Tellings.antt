@@ -11,23 +11,25 @@ use Rattle.wf_cli.proofs.Together.{where_told}
 use Rattle.wf_cli.proofs.Works.{end_fault, fault_gives, fault_late}
 use Rattle.wf_cli.specs.Reports.{the_reports}
 use Rattle.wf_cli.specs.Said.{FaultHolds, IsEnd, LateNow, MayEndNow, ReadsJournal, SaysTelling, Unwritten, Worked}
-use Rattle.wf_cli.specs.Top.{HasNoCauseInFile, IsAccepted, IsBehindSync, IsLineOf, IsStarted, IsTaken, Gives, TellsHistory, of_file}
+use Rattle.wf_cli.specs.Top.{HasNoCauseInFile, IsAccepted, IsBehindSync, IsLineOf, IsStarted, IsTaken, MayPrint, TellsHistory, of_file}
 use Rattle.wf_cli.specs.declared.end.Said.{Said}
 use Rattle.wf_cli.specs.declared.end.Silence.{Silence}
+use Rattle.wf_deeds.specs.Deeds.{polls}
 use Rattle.wf_deeds.specs.Laws.{OnlyReadings}
 use Rattle.wf_deeds.specs.Outside.{Outside}
 use Rattle.wf_engine.specs.Printed as end
 use Rattle.wf_engine.specs.Printed.{Scene, uses_source, needs_history, tells_history}
-use Rattle.wf_engine.specs.Safe.{SafeAt, command_by, session}
+use Rattle.wf_engine.specs.Safe.{SafeAt, Since, command_by, session}
 use Rattle.wf_host.specs.Moments.{weaker}
 use Rattle.wf_host.specs.World.{World, Faults, Told, Only, Rose}
 use Rattle.wf_host.specs.declared.data.Deed.{Deed}
+use Rattle.wf_journal.specs.Journal.{IsJournal}
 use Rattle.wf_journal.specs.Records.{magic, records}
 use Rattle.wf_deeds.specs.At.{journal, next_session, session_turns}
 use Rattle.wf_deeds.specs.History.{history}
 use Rattle.wf_deeds.specs.HistoryLaws.{IsHistory}
 use Rattle.wf_deeds.specs.Moments.{NextBehindHistory, NoTurnsBehind}
-use Rattle.wf_args.specs.Lines.{PlainLine, line_of}
+use Rattle.wf_args.specs.Lines.{PlainLine, line_of, waits_of}
 use Rattle.wf_args.specs.declared.command.Command.{Command}
 use Rattle.wf_args.specs.declared.command.Command.TheVariants.{Check, Format, Run, Resume, Show, At, Log, Help, Version}
 use Rattle.wf_replay.specs.TheLanguage.{the_language}
@@ -100,7 +102,7 @@ module _ (s : Scene) (l : PlainLine) (is_line : line_of s.words ≡ Ok l) (tells
         none (inr (inr (inr (inl (n, isnt))))) = cc isnt
         none (inr (inr (inr (inr isnt)))) = cc isnt
     fault_of engine.NotStarted is k =
-        let why = subst (λ f. (records f ≡ []) × ((length f ≤ 4) ⊎ (take 4 f ≡ magic))) found (k.not_started refl) in
+        let why = subst (λ f. (records f ≡ []) × IsJournal f) found (k.not_started refl) in
         ((needs, why.0), passed_not_started the_language s (no_magic s why.1) never_started)
     fault_of engine.Suspended is k = absurd (none is)
       where
@@ -128,8 +130,8 @@ module _ (s : Scene) (l : PlainLine) (is_line : line_of s.words ≡ Ok l) (tells
     tells_of : (text : String Global) → ReadsJournal l old new (Ok text) → TellsHistory the_language s (string_bytes text)
     tells_of text k = k.told s is_line (ap records (sym found))
 
-    gives_telling : (text : List ℕ) (it : Said) → TellsHistory the_language s text → (it.status ≡ status.Done) × (it.text.items ≡ text) → (image : List ℕ) (D : List Deed) → Gives the_language s image D it.status it.text.items
-    gives_telling text it told says = λ image D. subst (λ t. Gives the_language s image D it.status t) (sym says.1) (subst (λ x. Gives the_language s image D x text) (sym says.0) (end.told text told))
+    gives_telling : (text : List ℕ) (it : Said) → TellsHistory the_language s text → (it.status ≡ status.Done) × (it.text.items ≡ text) → (image : List ℕ) (D : List Deed) → MayPrint the_language s image D it.status it.text.items
+    gives_telling text it told says = λ image D. subst (λ t. MayPrint the_language s image D it.status t) (sym says.1) (subst (λ x. MayPrint the_language s image D x text) (sym says.0) (end.told text told))
 
     -- ## The end
     -- the text or the line of a fault, each with its cause and with what is passed before it
@@ -145,7 +147,7 @@ module _ (s : Scene) (l : PlainLine) (is_line : line_of s.words ≡ Ok l) (tells
 
     -- ## The work
     module _ (O : Outside) where
-      gives_if : (q : Result (String Global) EngineFault) (r : Result Said Silence) → ReadsJournal l old new q → IfErr q IsReadFault → SaysTelling q r → IfOk r (λ it. (image : List ℕ) → new.may_leave image → Gives the_language s image [] it.status it.text.items)
+      gives_if : (q : Result (String Global) EngineFault) (r : Result Said Silence) → ReadsJournal l old new q → IfErr q IsReadFault → SaysTelling q r → IfOk r (λ it. (image : List ℕ) → new.may_leave image → MayPrint the_language s image [] it.status it.text.items)
       gives_if (Ok text) (Ok it) k only says = λ image may. gives_telling (string_bytes text) it (tells_of text k) says image []
       gives_if (Ok text) (Err e) k only says = tt
       gives_if (Err f) (Ok it) k only says = λ image may. (fault_gives the_language s f it (fault_of f only k) says).0 image []
@@ -198,7 +200,9 @@ module _ (s : Scene) (l : PlainLine) (is_line : line_of s.words ≡ Ok l) (tells
             ends = ends_if q r k only says;
             late = late_if readings behind next q r k only says;
             finished = λ st line is ended. absurd (let it = both s (λ c. tells_history c ≡ true) (λ c. c ≡ Resume) telling line in tells_not_resume it.0 it.1 it.2);
-            refused = λ why. unwritten;
+            refused = λ why. (unwritten, tt);
             writes = inl unwritten;
-            idle = λ none. k.deeds;
+            idle = λ never. k.deeds;
+            unread = λ is. (unwritten, k.deeds);
+            polled = λ m is. weaker old new (λ c d. old.may_leave c × (d ≡ old.deeds)) (λ image all. Since old all (λ D. polls D ≤ waits_of m)) k.any_moment (λ c d now. ([], now.1 ∙ sym (append-nil old.deeds), omega arith));
           }

@@ -3,7 +3,7 @@ use Rattle.std.proofs.Common.{◌≡◌, ◌<◌, ◌⊎◌, inl, inr, ⊎_elim,
 use Rattle.std.proofs.lemmas.Bool.{cases_lt}
 use Rattle.wf_cli.proofs.Causes.{same_ok, same_err, both, no_bad_line, not_both_journals, run_executes, needs_line, reported_idle, reported_line, refused_line, argument_line, no_bad_argument, Cause, gives_cause}
 use Rattle.wf_cli.specs.Reports.{layout_of, the_reports}
-use Rattle.wf_cli.specs.Top.{IsLineOf, IsBadLine, IsBadArgument, IsRefused, IsNoHistory, Reported, Gives, IsOfFile, IsPassed, Says, bad_line, bad_argument, refused, reported, of_file}
+use Rattle.wf_cli.specs.Top.{IsLineOf, IsBadLine, IsBadArgument, IsRefused, IsNoHistory, Reported, MayPrint, IsOfFile, IsPassed, HasToSay, bad_line, bad_argument, refused, reported, of_file}
 use Rattle.wf_engine.specs.Printed as end
 use Rattle.wf_engine.specs.Printed.{Scene, uses_source, uses_journal, executes, refuses}
 use Rattle.wf_host.specs.Source.{Rest, IsFirst, WhereTold}
@@ -29,7 +29,7 @@ abbrev pub IsOrBefore : Status → Status → Type 0
 IsOrBefore st other = (other ≡ st) ⊎ (rank other < rank st)
 
 -- ## Words that are no line
-pub where_bad_line : (s : Scene) (old new : World) (n : ℕ) (other : Status) (text : List ℕ) → IsBadLine s n → Says s old new other text → IsOrBefore (status.BadLine n) other
+pub where_bad_line : (s : Scene) (old new : World) (n : ℕ) (other : Status) (text : List ℕ) → IsBadLine s n → HasToSay s old new other text → IsOrBefore (status.BadLine n) other
 where_bad_line s old new n _ _ bad (bad_line m is) = inl (ap status.BadLine (same_err (line_of s.words) m n is bad))
 where_bad_line s old new n _ _ bad (bad_argument why) = absurd (no_bad_line s (λ c. executes c ≡ true) n (run_executes s (argument_line s why)) bad)
 where_bad_line s old new n _ _ bad (refused r why fine) = absurd (no_bad_line s (λ c. uses_source c ≡ true) n (refused_line s r why) bad)
@@ -37,7 +37,7 @@ where_bad_line s old new n _ _ bad (reported text report back) = absurd (no_bad_
 where_bad_line s old new n _ _ bad (of_file st text is line accepted gives) = absurd (no_bad_line s (λ c. uses_journal c ≡ true) n line bad)
 
 -- ## An argument that is bad
-pub where_bad_argument : (s : Scene) (old new : World) (other : Status) (text : List ℕ) → IsBadArgument s → Says s old new other text → IsOrBefore status.BadArgument other
+pub where_bad_argument : (s : Scene) (old new : World) (other : Status) (text : List ℕ) → IsBadArgument s → HasToSay s old new other text → IsOrBefore status.BadArgument other
 where_bad_argument s old new _ _ bad (bad_line m is) = inr (omega arith)
 where_bad_argument s old new _ _ bad (bad_argument why) = inl refl
 where_bad_argument s old new _ _ bad (refused r why fine) = absurd (fine bad)
@@ -102,7 +102,7 @@ refused_or_reported apart s left r text told (l, bytes, (is, uses, first), why) 
 refused_or_reported apart s left r _ told why (end.helped line) = no_source s r Help refl why line
 refused_or_reported apart s left r _ told why (end.versioned line) = no_source s r Version refl why line
 
-pub where_refused : OneRefusal → NotBoth → (s : Scene) (old new : World) (left : List ℕ) (r : Refusal) (other : Status) (text : List ℕ) → s.source ≡ Some left → IsRefused s r → Says s old new other text → IsOrBefore (status.Refused r) other
+pub where_refused : OneRefusal → NotBoth → (s : Scene) (old new : World) (left : List ℕ) (r : Refusal) (other : Status) (text : List ℕ) → s.source ≡ Some left → IsRefused s r → HasToSay s old new other text → IsOrBefore (status.Refused r) other
 where_refused law apart s old new left r _ _ told why (bad_line m is) = inr (omega arith)
 where_refused law apart s old new left r _ _ told why (bad_argument bad) = inr (omega arith)
 where_refused law apart s old new left r _ _ told why (refused q why2 fine) = inl (ap status.Refused (one_refusal law s left q r told why2 why))
@@ -163,7 +163,7 @@ at_history other (inr (inr (inr (inr (inr (inl is)))))) equal = absurd (off othe
 at_history other (inr (inr (inr (inr (inr (inr is)))))) equal = absurd (off other status.Raised 8 is equal (λ no. cc no))
 
 -- of this rank there is one status of the file, and one number of a record
-same_history : (L : Language) (s : Scene) (image : List ℕ) (D : List Deed) (text : List ℕ) (n : ℕ) (other : Status) → IsNoHistory L s n → IsOfFile other → Gives L s image D other text → rank other ≡ 8 → other ≡ status.NotAHistory n
+same_history : (L : Language) (s : Scene) (image : List ℕ) (D : List Deed) (text : List ℕ) (n : ℕ) (other : Status) → IsNoHistory L s n → IsOfFile other → MayPrint L s image D other text → rank other ≡ 8 → other ≡ status.NotAHistory n
 same_history L s image D text n other why is gives equal =
     let found = at_history other is equal in
     let why2 : IsNoHistory L s found.0 = subst (Cause L s) found.1 (gives_cause L s image D other text gives) in
@@ -171,7 +171,7 @@ same_history L s image D text n other why is gives equal =
 
 -- where a cause of the file holds, and the host tells: nothing behind it comes, and no other status of its rank
 pub where_of_file : (s : Scene) (old new : World) (st other : Status) (text : List ℕ) → IsTrue old.tells → 4 < rank st → IsLineOf s (λ c. uses_journal c ≡ true) → ((q : Status) → IsPassed the_language s q → rank st < rank q → ⊥)
-    → ((q : Status) → IsOfFile q → rank q ≡ rank st → q ≡ st) → Says s old new other text → IsOrBefore st other
+    → ((q : Status) → IsOfFile q → rank q ≡ rank st → q ≡ st) → HasToSay s old new other text → IsOrBefore st other
 where_of_file s old new st _ _ told low line never alone (bad_line m is) = inr (omega (arith, low))
 where_of_file s old new st _ _ told low line never alone (bad_argument why) = inr (omega (arith, low))
 where_of_file s old new st _ _ told low line never alone (refused q is fine) = inr (omega (arith, low))
@@ -179,7 +179,7 @@ where_of_file s old new st _ _ told low line never alone (reported text report b
 where_of_file s old new st _ _ told low line never alone (of_file other text is runs accepted gives) = ordered st other is (λ high. never other (gives told).1 high) (alone other is)
 
 -- where the records are no history, and the host tells
-pub where_no_history : (s : Scene) (old new : World) (n : ℕ) (other : Status) (text : List ℕ) → IsTrue old.tells → IsNoHistory the_language s n → Says s old new other text → IsOrBefore (status.NotAHistory n) other
+pub where_no_history : (s : Scene) (old new : World) (n : ℕ) (other : Status) (text : List ℕ) → IsTrue old.tells → IsNoHistory the_language s n → HasToSay s old new other text → IsOrBefore (status.NotAHistory n) other
 where_no_history s old new n _ _ told why (bad_line m is) = inr (omega arith)
 where_no_history s old new n _ _ told why (bad_argument bad) = inr (omega arith)
 where_no_history s old new n _ _ told why (refused q is fine) = inr (omega arith)

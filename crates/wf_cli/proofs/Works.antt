@@ -1,25 +1,27 @@
 -- What a command has done, from the opening of its file and the way to the outcome.
-use Rattle.std.proofs.Common.{◌≡◌, ◌⊎◌, ◌≢◌, inl, inr, ⊎_elim, ℕ, Bool, true, false, List, [], ◌++◌, None, Some, Result, Ok, Err, IfOk, IsErr, IsErrAnd, refl, sym, ◌∙◌, ap, subst, append_assoc, arith}
-use Rattle.std.specs.Prelude.{codes, decimal}
+use Rattle.std.proofs.Common.{◌≡◌, ◌⊎◌, ◌≢◌, ◌≤◌, inl, inr, ⊎_elim, ℕ, Bool, true, false, List, [], ◌++◌, None, Some, Result, Ok, Err, IfOk, IsErr, IsErrAnd, refl, sym, ◌∙◌, ap, subst, append_assoc, arith}
+use Rattle.std.specs.List.{AllByRecursion}
+use Rattle.std.specs.Prelude.{IsErrOf, codes, decimal}
 use Rattle.std.proofs.lemmas.List.{append-nil}
 use Rattle.wf_lemmas.proofs.Options.{same_some}
 use Rattle.wf_ast.specs.Tree.{Program}
 use Rattle.wf_cli.proofs.Causes.{same_ok, same_err, both, not_both, executing, executes_line, not_both_journals, no_argument, good_argument, argument_line, one_command, reported_line}
-use Rattle.wf_cli.proofs.Deeds.{polls_both, printed_both}
+use Rattle.wf_cli.proofs.Deeds.{polls_both, printed_both, small_polls}
 use Rattle.wf_cli.proofs.Safe.{of_command, IsPlainEnd, plain_end, still_end}
 use Rattle.wf_cli.proofs.Together.{where_told, same_bytes}
 use Rattle.wf_cli.proofs.Moments.{early_nothing, late_going, safe_late}
 use Rattle.wf_cli.proofs.Opens.{passed_all}
 use Rattle.wf_cli.specs.Reports.{layout_of, the_reports}
-use Rattle.wf_cli.specs.Said.{SaysStatus, SaysFault, SaysReport, SaysBadLine, SaysArgument, SaysSource, SaysTree, SaysLayout, SaysVerdict, SaysChecked, DoneSilently, SafeSince, LateNow, MayEndNow, Unwritten, FaultHolds, Opening, SaysResult, SaysHistory, Going, IsEnd, Worked}
-use Rattle.wf_cli.specs.Top.{IsLineOf, IsBadLine, IsBadArgument, IsRefused, IsChecked, HasOtherMagic, IsStarted, IsNotStarted, IsNoHistory, Reported, IsAccepted, IsTaken, IsOfFile, IsPassed, HasNoCauseInFile, IsBehindSync, HasOutcome, Gives, ReadsBack, Says, bad_line, bad_argument, refused, reported, of_file}
+use Rattle.wf_cli.specs.Said.{PolledAtMost, SaysStatus, SaysFault, SaysReport, SaysBadLine, SaysArgument, SaysSource, SaysTree, SaysLayout, SaysVerdict, SaysChecked, DoneSilently, SafeSince, LateNow, MayEndNow, Unwritten, FaultHolds, Opening, SaysResult, SaysHistory, Going, IsEnd, Worked}
+use Rattle.wf_cli.specs.Top.{IsLineOf, IsBadLine, IsBadArgument, IsRefused, IsChecked, HasOtherMagic, IsStarted, IsNotStarted, IsNoHistory, Reported, IsAccepted, IsTaken, IsOfFile, IsPassed, HasNoCauseInFile, IsBehindSync, HasOutcome, MayPrint, ReadsBack, HasToSay, bad_line, bad_argument, refused, reported, of_file}
 use Rattle.wf_cli.specs.declared.argument.ArgumentFault.{ArgumentFault}
 use Rattle.wf_cli.specs.declared.argument.ArgumentFault.TheVariants as argument
 use Rattle.wf_cli.specs.declared.end.Said.{Said}
 use Rattle.wf_cli.specs.declared.end.Silence.{Silence}
 use Rattle.wf_cli.specs.declared.end.Silence.TheVariants as silence
 use Rattle.wf_deeds.specs.Clauses.{KeptAt}
-use Rattle.wf_deeds.specs.Deeds.{polls, printed}
+use Rattle.wf_deeds.specs.Deeds.{IsSmall, polls}
+use Rattle.wf_host.specs.Printing.{printed}
 use Rattle.wf_deeds.specs.Kept as kept
 use Rattle.wf_deeds.specs.Memory.{session as session_of}
 use Rattle.wf_deeds.specs.Outside.{Outside}
@@ -30,8 +32,8 @@ use Rattle.wf_engine.specs.Printed.{Scene, uses_source, uses_journal, executes, 
 use Rattle.wf_engine.specs.Safe.{IsFit, Since, SafeAt, session}
 use Rattle.wf_engine.specs.Starts.{HasArgument}
 use Rattle.wf_engine.specs.declared.engine.Engine.{Engine}
-use Rattle.wf_host.specs.Moments.{CountsNow, started, joined}
-use Rattle.wf_host.specs.World.{World, Faults, Told, Rose}
+use Rattle.wf_host.specs.Moments.{CountsNow, started, joined, weaker}
+use Rattle.wf_host.specs.World.{World, Faults, LeavesOnly, Told, Rose}
 use Rattle.wf_host.specs.declared.data.Deed.{Deed}
 use Rattle.wf_journal.specs.Records.{records}
 use Rattle.wf_journal.specs.Standing.{new_none}
@@ -65,11 +67,11 @@ use Rattle.wf_yaml_write.specs.Layout.{written}
 
 -- ## A status that prints a line
 -- what is said with a line has its cause
-says_line : (s : Scene) (old new : World) (st : Status) (line : List ℕ) (it : Said) → Says s old new st line → status_text st ≡ Some line → SaysStatus st it → Says s old new it.status it.text.items
-says_line s old new st line it says is that = subst (λ t. Says s old new it.status t) (sym (that.text line is)) (subst (λ x. Says s old new x line) (sym that.status) says)
+says_line : (s : Scene) (old new : World) (st : Status) (line : List ℕ) (it : Said) → HasToSay s old new st line → status_text st ≡ Some line → SaysStatus st it → HasToSay s old new it.status it.text.items
+says_line s old new st line it says is that = subst (λ t. HasToSay s old new it.status t) (sym (that.text line is)) (subst (λ x. HasToSay s old new x line) (sym that.status) says)
 
-gives_line : (L : Language) (s : Scene) (image : List ℕ) (D : List Deed) (st : Status) (line : List ℕ) (it : Said) → Gives L s image D st line → status_text st ≡ Some line → SaysStatus st it → Gives L s image D it.status it.text.items
-gives_line L s image D st line it gives is that = subst (λ t. Gives L s image D it.status t) (sym (that.text line is)) (subst (λ x. Gives L s image D x line) (sym that.status) gives)
+gives_line : (L : Language) (s : Scene) (image : List ℕ) (D : List Deed) (st : Status) (line : List ℕ) (it : Said) → MayPrint L s image D st line → status_text st ≡ Some line → SaysStatus st it → MayPrint L s image D it.status it.text.items
+gives_line L s image D st line it gives is that = subst (λ t. MayPrint L s image D it.status t) (sym (that.text line is)) (subst (λ x. MayPrint L s image D x line) (sym that.status) gives)
 
 -- ## A command that touches no file
 -- it did nothing
@@ -106,7 +108,7 @@ ends_still O s w st early image may =
     ([], sym (append-nil w.deeds), still_end the_language O (records image) _ _ (status_code st) (λ is. early (subst (IsBehindSync s) (sym (suspended_code st is)) tt)))
 
 pub worked_nothing : (O : Outside) (s : Scene) (w : World) (r : Result Said Silence) → ((c : List ℕ) (d : List Deed) → w.left_since w.moment c d → w.may_leave c × (d ≡ w.deeds))
-    → IfOk r (λ it. (image : List ℕ) (D : List Deed) → Gives the_language s image D it.status it.text.items) → IfOk r (λ it. ¬ IsBehindSync s it.status) → Worked O s w w r
+    → IfOk r (λ it. (image : List ℕ) (D : List Deed) → MayPrint the_language s image D it.status it.text.items) → IfOk r (λ it. ¬ IsBehindSync s it.status) → Worked O s w w r
 worked_nothing O s w r only gives early = record {
   silently = still w;
   safe = nothing_done O s w only;
@@ -114,12 +116,14 @@ worked_nothing O s w r only gives early = record {
   ends = may_end r early;
   late = none_late r early;
   finished = λ st line is ended. (still_unwritten w only, refl);
-  refused = λ why. still_unwritten w only;
+  refused = λ why. (still_unwritten w only, tt);
   writes = inl (still_unwritten w only);
-  idle = λ line. refl;
+  idle = λ never. refl;
+  unread = λ is. (still_unwritten w only, refl);
+  polled = λ l is. started w (λ image all. Since w all (λ D. polls D ≤ waits_of l)) only (λ c may. ([], sym (append-nil w.deeds), omega arith));
 }
   where
-    every : (q : Result Said Silence) → IfOk q (λ it. (image : List ℕ) (D : List Deed) → Gives the_language s image D it.status it.text.items) → IfOk q (λ it. (image : List ℕ) → w.may_leave image → Gives the_language s image [] it.status it.text.items)
+    every : (q : Result Said Silence) → IfOk q (λ it. (image : List ℕ) (D : List Deed) → MayPrint the_language s image D it.status it.text.items) → IfOk q (λ it. (image : List ℕ) → w.may_leave image → MayPrint the_language s image [] it.status it.text.items)
     every (Ok it) gives = λ image may. gives image []
     every (Err e) gives = tt
 
@@ -132,7 +136,7 @@ worked_nothing O s w r only gives early = record {
     none_late (Err e) early = tt
 
 -- words that are no line
-pub gives_bad_line : (L : Language) (s : Scene) (n : ℕ) (r : Result Said Silence) → IsBadLine s n → IfOk r (SaysStatus (status.BadLine n)) → IfOk r (λ it. (image : List ℕ) (D : List Deed) → Gives L s image D it.status it.text.items)
+pub gives_bad_line : (L : Language) (s : Scene) (n : ℕ) (r : Result Said Silence) → IsBadLine s n → IfOk r (SaysStatus (status.BadLine n)) → IfOk r (λ it. (image : List ℕ) (D : List Deed) → MayPrint L s image D it.status it.text.items)
 gives_bad_line L s n (Ok it) bad says = λ image D. gives_line L s image D (status.BadLine n) (line_end (codes "bad line at word " ++ decimal n)) it (end.bad_line n bad) refl says
 gives_bad_line L s n (Err e) bad says = tt
 
@@ -140,25 +144,25 @@ pub end_bad_line : (s : Scene) (old new : World) (a b : ℕ) (f g : Faults) (n :
 end_bad_line s old new a b f g n it bad says = says_line s old new (status.BadLine n) (line_end (codes "bad line at word " ++ decimal n)) it (bad_line n bad) refl says
 
 -- an argument that is bad
-gives_bad_argument : (L : Language) (s : Scene) (it : Said) → IsBadArgument s → SaysStatus status.BadArgument it → (image : List ℕ) (D : List Deed) → Gives L s image D it.status it.text.items
+gives_bad_argument : (L : Language) (s : Scene) (it : Said) → IsBadArgument s → SaysStatus status.BadArgument it → (image : List ℕ) (D : List Deed) → MayPrint L s image D it.status it.text.items
 gives_bad_argument L s it bad says = λ image D. gives_line L s image D status.BadArgument (line_end (codes "bad argument")) it (end.bad_argument bad) refl says
 
 end_bad_argument : (s : Scene) (old new : World) (a b : ℕ) (f g : Faults) (it : Said) → IsBadArgument s → SaysStatus status.BadArgument it → IsEnd s old new a b f g (Ok it)
 end_bad_argument s old new a b f g it bad says = says_line s old new status.BadArgument (line_end (codes "bad argument")) it (bad_argument bad) refl says
 
 -- a source that is refused
-pub gives_refused : (L : Language) (s : Scene) (why : Refusal) (it : Said) → IsRefused s why → SaysStatus (status.Refused why) it → (image : List ℕ) (D : List Deed) → Gives L s image D it.status it.text.items
+pub gives_refused : (L : Language) (s : Scene) (why : Refusal) (it : Said) → IsRefused s why → SaysStatus (status.Refused why) it → (image : List ℕ) (D : List Deed) → MayPrint L s image D it.status it.text.items
 gives_refused L s why it is says = λ image D. gives_line L s image D (status.Refused why) (line_end (refusal_text why)) it (end.refused why is) refl says
 
 pub end_refused : (s : Scene) (old new : World) (a b : ℕ) (f g : Faults) (why : Refusal) (it : Said) → IsRefused s why → ¬ IsBadArgument s → SaysStatus (status.Refused why) it → IsEnd s old new a b f g (Ok it)
 end_refused s old new a b f g why it is fine says = says_line s old new (status.Refused why) (line_end (refusal_text why)) it (refused why is fine) refl says
 
 -- a report
-pub gives_report : (L : Language) (s : Scene) (text : List ℕ) (it : Said) → Reported s text → (it.status ≡ status.Done) × (it.text.items ≡ text) → (image : List ℕ) (D : List Deed) → Gives L s image D it.status it.text.items
-gives_report L s text it report says = λ image D. subst (λ t. Gives L s image D it.status t) (sym says.1) (subst (λ x. Gives L s image D x text) (sym says.0) (end.done text report))
+pub gives_report : (L : Language) (s : Scene) (text : List ℕ) (it : Said) → Reported s text → (it.status ≡ status.Done) × (it.text.items ≡ text) → (image : List ℕ) (D : List Deed) → MayPrint L s image D it.status it.text.items
+gives_report L s text it report says = λ image D. subst (λ t. MayPrint L s image D it.status t) (sym says.1) (subst (λ x. MayPrint L s image D x text) (sym says.0) (end.done text report))
 
 pub end_report : (s : Scene) (old new : World) (a b : ℕ) (f g : Faults) (text : List ℕ) (it : Said) → Reported s text → ReadsBack s text → (it.status ≡ status.Done) × (it.text.items ≡ text) → IsEnd s old new a b f g (Ok it)
-end_report s old new a b f g text it report back says = subst (λ t. Says s old new it.status t) (sym says.1) (subst (λ x. Says s old new x text) (sym says.0) (reported text report back))
+end_report s old new a b f g text it report back says = subst (λ t. HasToSay s old new it.status t) (sym says.1) (subst (λ x. HasToSay s old new x text) (sym says.0) (reported text report back))
 
 -- ## A file that isn't opened
 -- an end of such a status
@@ -166,7 +170,7 @@ plain_code : (it : Said) (st : Status) → it.status ≡ st → IsPlainEnd (stat
 plain_code it st is plain = subst (λ x. IsPlainEnd (status_code x)) (sym is) plain
 
 -- the status and the line of a fault, of which the rules ask nothing at the end
-pub fault_gives : (L : Language) (s : Scene) (f : EngineFault) (it : Said) → FaultHolds L s f → SaysFault f (Ok it) → ((image : List ℕ) (D : List Deed) → Gives L s image D it.status it.text.items) × IsPassed L s it.status × IsPlainEnd (status_code it.status)
+pub fault_gives : (L : Language) (s : Scene) (f : EngineFault) (it : Said) → FaultHolds L s f → SaysFault f (Ok it) → ((image : List ℕ) (D : List Deed) → MayPrint L s image D it.status it.text.items) × IsPassed L s it.status × IsPlainEnd (status_code it.status)
 fault_gives L s engine.DiskFault it holds says = absurd (cc says)
 fault_gives L s engine.PollFault it holds says = absurd holds
 fault_gives L s engine.NotAJournal it holds says =
@@ -229,6 +233,21 @@ fault_silence engine.Suspended e says = inr (inr says)
 fault_silence engine.Closed e says = inr (inr (err_is e silence.OutOfMemory says))
 fault_silence engine.OutOfMemory e says = inr (inr (err_is e silence.OutOfMemory says))
 
+-- and so no failed read
+pub not_unread : (f : EngineFault) (r : Result Said Silence) → SaysFault f r → IsErrOf r silence.Unread → ⊥
+not_unread f (Ok it) says is = cc is
+not_unread f (Err e) says is = by (fault_silence f e says) (err_is e silence.Unread is)
+  where
+    by : ((f ≡ engine.DiskFault) × (e ≡ silence.DiskFault)) ⊎ ((f ≡ engine.PollFault) × (e ≡ silence.PollFault)) ⊎ (e ≡ silence.OutOfMemory) → e ≡ silence.Unread → ⊥
+    by (inl (which, disk)) unread = let no : silence.DiskFault ≡ silence.Unread = sym disk ∙ unread in cc no
+    by (inr (inl (which, poll))) unread = let no : silence.PollFault ≡ silence.Unread = sym poll ∙ unread in cc no
+    by (inr (inr lack)) unread = let no : silence.OutOfMemory ≡ silence.Unread = sym lack ∙ unread in cc no
+
+-- where nothing was sent or awaited by any moment, no poll was made
+small_polled : (old new : World) (n : ℕ) → LeavesOnly old new (λ image all. Since old all (λ D. AllByRecursion IsSmall D)) → PolledAtMost old new n
+small_polled old new n moments =
+    weaker old new (λ image all. Since old all (λ D. AllByRecursion IsSmall D)) (λ image all. Since old all (λ D. polls D ≤ n)) moments (λ c d (D, is, small). (D, is, let none = small_polls D small in omega (arith, none)))
+
 pub end_fault : (s : Scene) (old new : World) (a b : ℕ) (f g : Faults) (why : EngineFault) (r : Result Said Silence) → SaysFault why r → IsLineOf s (λ c. uses_journal c ≡ true) → IsTaken s → Told old (FaultHolds the_language s why) → Told old (DoneSilently old new)
     → (why ≡ engine.DiskFault → Rose f.disk g.disk) → why ≢ engine.PollFault → IsEnd s old new a b f g r
 end_fault s old new a b f g why (Ok it) says line taken holds silently rose heard =
@@ -246,12 +265,14 @@ worked_fault O s command old new why r o says line taken which = record {
   ends = may_end r says;
   late = late_if r says;
   finished = λ st line2 is ended. (o.resumed (which line2), o.finished st line2 is ended);
-  refused = o.refused;
+  refused = λ why. (o.refused why, o.small_now);
   writes = inr (line, taken);
-  idle = λ none. absurd (⊎_elim (executing s line) taken.argument none);
+  idle = λ never. absurd (never (line, taken));
+  unread = λ is. absurd (not_unread why r says is);
+  polled = λ l is. small_polled old new (waits_of l) o.small;
 }
   where
-    given : (q : Result Said Silence) → SaysFault why q → IfOk q (λ it. (image : List ℕ) → new.may_leave image → Gives the_language s image o.silently.done it.status it.text.items)
+    given : (q : Result Said Silence) → SaysFault why q → IfOk q (λ it. (image : List ℕ) → new.may_leave image → MayPrint the_language s image o.silently.done it.status it.text.items)
     given (Ok it) says = λ image may. (fault_gives the_language s why it o.fault says).0 image o.silently.done
     given (Err e) says = tt
 
@@ -273,17 +294,17 @@ outcome_of_file Cancelled st is = let no : None ≡ Some st = is in absurd (cc n
 
 -- the outcome of what stands there
 history_gives : (L : Language) (s : Scene) (l : PlainLine) (new : World) (D done : List Deed) (it : Said) → line_of s.words ≡ Ok l → IsLineOf s (λ c. executes c ≡ true) → polls D ≡ 0 → SaysHistory L (waits_of l) new done it → (image : List ℕ) → new.may_leave image
-    → Gives L s image (D ++ done) it.status it.text.items
+    → MayPrint L s image (D ++ done) it.status it.text.items
 history_gives L s l new D done it is line unpolled says image may =
     let here : HasOutcome L s image says.standing.config.outcome = (line, (says.standing, subst (λ f. history L (records f) ≡ Ok says.standing) (sym (says.settled image may)) says.history, refl)) in
-    ⊎_elim (λ that. subst (λ t. Gives L s image (D ++ done) it.status t) (sym that.text) (end.ended says.standing.config.outcome it.status here that.status))
+    ⊎_elim (λ that. subst (λ t. MayPrint L s image (D ++ done) it.status t) (sym that.text) (end.ended says.standing.config.outcome it.status here that.status))
     (λ (active, polled, that).
     let all : polls (D ++ done) ≡ waits_of l = (let both = polls_both D done in omega (arith, both, unpolled, polled)) in
     gives_line L s image (D ++ done) status.Suspended (line_end (codes "suspended")) it (end.suspended (subst (λ o. HasOutcome L s image o) active here, (l, is, all))) refl that)
     says.says
 
 module _ (O : Outside) (s : Scene) (l : PlainLine) (is_line : line_of s.words ≡ Ok l) (command : kept.Command) (old mid new : World) (e : Engine) (r : Result Said Silence) (line : IsLineOf s (λ c. executes c ≡ true)) (taken : IsTaken s) (which : IsLineOf s (λ c. c ≡ Resume) → command ≡ kept.Resume) (found : old.seen ≡ s.found)
-    (counts : CountsNow mid) (counts_new : CountsNow new) (o : Opening O command s old mid (Ok e)) (g : Going the_language O command (memory e) (waits_of l) o.silently.done mid new r) where
+    (counts : CountsNow mid) (counts_new : CountsNow new) (o : Opening O command s old mid (Ok e)) (g : Going the_language O command (memory e) (waits_of l) o.silently.done mid new r) (read : IsErrOf r silence.Unread → ⊥) where
   -- the deeds of the opening and those of the session
   abbrev all : List Deed
   all = o.silently.done ++ g.silently.done
@@ -291,7 +312,7 @@ module _ (O : Outside) (s : Scene) (l : PlainLine) (is_line : line_of s.words �
   all_done : new.deeds ≡ old.deeds ++ all
   all_done = g.silently.deeds ∙ ap (λ l. l ++ g.silently.done) o.silently.deeds ∙ append_assoc old.deeds o.silently.done g.silently.done
 
-  given : (L : Language) (q : Result Said Silence) → IfOk q (SaysHistory L (waits_of l) new g.silently.done) → IfOk q (λ it. (image : List ℕ) → new.may_leave image → Gives L s image all it.status it.text.items)
+  given : (L : Language) (q : Result Said Silence) → IfOk q (SaysHistory L (waits_of l) new g.silently.done) → IfOk q (λ it. (image : List ℕ) → new.may_leave image → MayPrint L s image all it.status it.text.items)
   given L (Ok it) says = history_gives L s l new o.silently.done g.silently.done it is_line line o.opened.unpolled says
   given L (Err x) says = tt
 
@@ -307,7 +328,7 @@ module _ (O : Outside) (s : Scene) (l : PlainLine) (is_line : line_of s.words �
   may_end (Err x) says ends = tt
 
   late_now : (q : Result Said Silence) → IfOk q (λ it. IsBehindSync s it.status → LateNow the_language O s old new)
-  late_now (Ok it) = λ behind fit image may. late_going the_language O s command old mid o.silently.done e image new.deeds o.opened o.silently.deeds o.silently.silent (g.moments.each image new.deeds (counts_new mid.moment image g.moments.later may))
+  late_now (Ok it) = λ behind fit image may. late_going the_language O s command (waits_of l) old mid o.silently.done e image new.deeds o.opened o.silently.deeds o.silently.silent (g.moments.each image new.deeds (counts_new mid.moment image g.moments.later may))
   late_now (Err x) = tt
 
   no_cause : HasOtherMagic s ⊎ IsStarted s ⊎ IsNotStarted s ⊎ ((n : ℕ) × IsNoHistory the_language s n) → ⊥
@@ -329,12 +350,26 @@ module _ (O : Outside) (s : Scene) (l : PlainLine) (is_line : line_of s.words �
     second.1 ∙ first.1,
   )
 
+  -- the opening polls nothing, and the session no more often than the line says
+  polled_then : (c : List ℕ) (d : List Deed) → Moment mid (KeptAt the_language O command false (memory e) (waits_of l) (records mid.seen) o.silently.done) c d → Since old d (λ D. polls D ≤ waits_of l)
+  polled_then c d (E, is, begins, k) = (
+    o.silently.done ++ E,
+    is ∙ ap (λ l. l ++ E) o.silently.deeds ∙ append_assoc old.deeds o.silently.done E,
+    let sum = polls_both o.silently.done E in
+        let few = k.polled in omega (arith, sum, few, o.opened.unpolled),
+  )
+
+  polled_going : PolledAtMost old new (waits_of l)
+  polled_going =
+      joined old mid new (λ image all. Since old all (λ D. polls D ≤ waits_of l)) (Moment mid (KeptAt the_language O command false (memory e) (waits_of l) (records mid.seen) o.silently.done)) (small_polled old mid (waits_of l) o.small) g.moments
+      polled_then
+
   pub worked_going : Worked O s old new r
   worked_going = record {
     silently = record { done = all; deeds = all_done; silent = printed_both o.silently.done g.silently.done ∙ ap (λ l. l ++ printed g.silently.done) o.silently.silent ∙ g.silently.silent };
     safe = λ fit.
-        joined old mid new (SafeAt the_language O the_reports s None old) (Moment mid (KeptAt the_language O command false (memory e) (records mid.seen) o.silently.done)) (o.safe fit) g.moments
-        (λ c d now. safe_late the_language O s old c d (late_going the_language O s command old mid o.silently.done e c d o.opened o.silently.deeds o.silently.silent now));
+        joined old mid new (SafeAt the_language O the_reports s None old) (Moment mid (KeptAt the_language O command false (memory e) (waits_of l) (records mid.seen) o.silently.done)) (o.safe fit) g.moments
+        (λ c d now. safe_late the_language O s old c d (late_going the_language O s command (waits_of l) old mid o.silently.done e c d o.opened o.silently.deeds o.silently.silent now));
     gives = given the_language r g.said;
     ends = may_end r g.said g.ends;
     late = late_now r;
@@ -344,11 +379,21 @@ module _ (O : Outside) (s : Scene) (l : PlainLine) (is_line : line_of s.words �
         (both_unwritten stays over.0, over.1 ∙ o.finished st line2 is ended);
     refused = λ why. absurd (no_cause why);
     writes = inr (line, taken);
-    idle = λ none. absurd (⊎_elim (executing s line) taken.argument none);
+    idle = λ never. absurd (never (line, taken));
+    unread = λ is. absurd (read is);
+    polled = λ m is. subst (λ k. PolledAtMost old new (waits_of k)) (same_ok (line_of s.words) l m is_line is) polled_going;
   }
 
+-- a session ends with no failed read
+pub result_not_unread : (f g : Faults) (r : Result Said Silence) → SaysResult f g r → IsErrOf r silence.Unread → ⊥
+result_not_unread f g (Ok it) says is = cc is
+result_not_unread f g (Err silence.Unread) says is = says
+result_not_unread f g (Err silence.DiskFault) says is = cc is
+result_not_unread f g (Err silence.PollFault) says is = cc is
+result_not_unread f g (Err silence.OutOfMemory) says is = cc is
+
 pub end_going : (s : Scene) (old new : World) (a b : ℕ) (f g h : Faults) (r : Result Said Silence) → SaysResult g h r → IsLineOf s (λ c. executes c ≡ true) → IsTaken s
-    → Told old (HasNoCauseInFile the_language s × IfOk r (λ it. Since old new.deeds (λ D. Gives the_language s new.seen D it.status it.text.items))) → (Rose g.disk h.disk → Rose f.disk h.disk) → (Rose g.poll h.poll → Rose f.poll h.poll) → IsEnd s old new a b f h r
+    → Told old (HasNoCauseInFile the_language s × IfOk r (λ it. Since old new.deeds (λ D. MayPrint the_language s new.seen D it.status it.text.items))) → (Rose g.disk h.disk → Rose f.disk h.disk) → (Rose g.poll h.poll → Rose f.poll h.poll) → IsEnd s old new a b f h r
 end_going s old new a b f g h (Ok it) says line taken gives rose heard =
     of_file it.status it.text.items (⊎_elim (λ (o, result, that). outcome_of_file o it.status that.status) (λ that. inr (inr (inr (inr (inl that.status))))) says) (executes_line s line) taken (λ told. let x = gives told in (x.1, passed_all the_language s it.status x.0))
 end_going s old new a b f g h (Err silence.Unread) says line taken gives rose heard = absurd says
@@ -406,6 +451,11 @@ refused_worked O s w why it is says only = worked_nothing O s w (Ok it) only (gi
 pub silent_worked : (O : Outside) (s : Scene) (w : World) (e : Silence) → OnlyNow w → Worked O s w w (Err e)
 silent_worked O s w e only = lack_worked O s w e only
 
+-- any answer without a text
+pub failed_worked : (O : Outside) (s : Scene) (w : World) (r : Result Said Silence) → IsErr r → OnlyNow w → Worked O s w w r
+failed_worked O s w (Ok it) is only = absurd (cc is)
+failed_worked O s w (Err e) is only = silent_worked O s w e only
+
 -- a command that takes just programs
 abbrev pub TakesPrograms : Command → Type 0
 TakesPrograms c = (bytes : List ℕ) (why : Refusal) → IsRefusalOf bytes why → end.refuses c bytes why
@@ -444,8 +494,8 @@ resume_taken s line = record {
 }
 
 -- what is said of each file that a crash may leave is said of the one that reads
-pub given_seen : (L : Language) (s : Scene) (old new : World) (r : Result Said Silence) (did : DoneSilently old new) → IfOk r (λ it. (image : List ℕ) → new.may_leave image → Gives L s image did.done it.status it.text.items) → new.may_leave new.seen
-    → IfOk r (λ it. Since old new.deeds (λ D. Gives L s new.seen D it.status it.text.items))
+pub given_seen : (L : Language) (s : Scene) (old new : World) (r : Result Said Silence) (did : DoneSilently old new) → IfOk r (λ it. (image : List ℕ) → new.may_leave image → MayPrint L s image did.done it.status it.text.items) → new.may_leave new.seen
+    → IfOk r (λ it. Since old new.deeds (λ D. MayPrint L s new.seen D it.status it.text.items))
 given_seen L s old new (Ok it) did gives may = (did.done, did.deeds, gives new.seen may)
 given_seen L s old new (Err e) did gives may = tt
 

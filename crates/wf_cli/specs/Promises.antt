@@ -1,5 +1,5 @@
 -- What the top call promises of a call: each row by its name.
-use Rattle.wf_cli.specs.Top.{Call, Ends, BadLineRow, BadArgumentRow, ReadFaultRow, RefusedRow, DiskFaultRow, NotAJournalRow, AlreadyStartedRow, NotStartedRow, NotAHistoryRow, SuspendedRow, OutcomeRow, DoneRow, TellingRow, AcceptedRow, ComesBackRow, PrintFaultRow, PollFaultRow, Completes, FinishedStays, RefusedStays, ReportsStay, SilentStays, SafeThroughout, SafeAtEnd, LateAtEnd}
+use Rattle.wf_cli.specs.Top.{Call, Ends, BadLineRow, BadArgumentRow, ReadFaultRow, RefusedRow, DiskFaultRow, NotAJournalRow, AlreadyStartedRow, NotStartedRow, NotAHistoryRow, SuspendedRow, OutcomeRow, DoneRow, TellingRow, AcceptedRow, ComesBackRow, PrintFaultRow, PollFaultRow, Completes, FinishedStays, RefusedStays, PollsWithin, ReportsStay, SilentStays, SafeThroughout, SafeAtEnd, LateAtEnd}
 use Rattle.wf_host.specs.World.{Told}
 use Rattle.wf_replay.specs.TheLanguage.{the_language}
 
@@ -46,12 +46,16 @@ pub record Promised (x : Call) : Type 0 where
   -- ## What isn't written
   -- a journal with an outcome
   pub finished_stays : Told x.old (FinishedStays the_language x)
-  -- a journal that is refused
+  -- a journal that is refused; and nothing but prints and readings of the clock is done
   pub refused_stays : Told x.old (RefusedStays the_language x)
   -- the file of a command that executes nothing; and it does nothing but print
   pub reports_stay : Told x.old (ReportsStay x)
-  -- the file where the words are no line, or the argument or the source is refused
+  -- the file where the words are no line, or the argument or the source is refused, or the source couldn't be read; and nothing but prints
+  -- is done
   pub silent_stays : Told x.old (SilentStays x)
+  -- ## How often it polls
+  -- never more often than its line says: by any moment, and at the end, whatever the status
+  pub polls_within : Told x.old (PollsWithin x)
   -- ## Killed at any moment
   -- what a crash may leave is safe with what was done by then
   pub safe : Told x.old (SafeThroughout the_language x)

@@ -3,14 +3,14 @@ use Rattle.std.specs.Prelude.{◌≡◌, ◌≢◌, ◌⊎◌, ◌≤◌, ℕ, t
 use Rattle.std.specs.List.{AllByRecursion}
 use Rattle.wf_ast.specs.Tree.{Program}
 use Rattle.wf_cli.specs.Reports.{the_reports}
-use Rattle.wf_cli.specs.Top.{IsTaken, IsBadArgument, IsLineOf, HasOtherMagic, IsStarted, IsNotStarted, IsNoHistory, IsPassed, HasNoCauseInFile, IsBehindSync, Gives, Says}
+use Rattle.wf_cli.specs.Top.{IsTaken, IsBadArgument, IsLineOf, HasOtherMagic, IsStarted, IsNotStarted, IsNoHistory, IsPassed, HasNoCauseInFile, IsBehindSync, MayPrint, HasToSay}
 use Rattle.wf_cli.specs.declared.argument.ArgumentFault.{ArgumentFault}
 use Rattle.wf_cli.specs.declared.argument.ArgumentFault.TheVariants as argument
 use Rattle.wf_cli.specs.declared.end.Said.{Said}
 use Rattle.wf_cli.specs.declared.end.Silence.{Silence}
 use Rattle.wf_cli.specs.declared.end.Silence.TheVariants as silence
 use Rattle.wf_deeds.specs.Clauses.{IsOfSession, KeptAt}
-use Rattle.wf_deeds.specs.Deeds.{polls, printed, nows}
+use Rattle.wf_deeds.specs.Deeds.{IsSmall, polls, nows}
 use Rattle.wf_deeds.specs.Kept as kept
 use Rattle.wf_deeds.specs.Memory.{Memory, StandsFor, session as session_of}
 use Rattle.wf_deeds.specs.Outside.{Outside}
@@ -28,21 +28,21 @@ use Rattle.wf_host.specs.World.{World, Faults, Told, Only, LeavesOnly, Rose}
 use Rattle.wf_host.specs.declared.ReadFault.{ReadFault}
 use Rattle.wf_host.specs.declared.ReadFault.TheVariants as fault
 use Rattle.wf_host.specs.declared.data.Deed.{Deed}
+use Rattle.wf_journal.specs.Journal.{IsJournal}
 use Rattle.wf_journal.specs.Records.{magic, records}
 use Rattle.wf_journal.specs.Steps.{Moment}
-use Rattle.wf_args.specs.Lines.{PlainLine, line_of}
+use Rattle.wf_args.specs.Lines.{PlainLine, line_of, waits_of}
 use Rattle.wf_args.specs.declared.command.Command.{Command}
 use Rattle.wf_args.specs.declared.command.Command.TheVariants.{Resume, Log}
 use Rattle.wf_args.specs.declared.read.LineFault.{LineFault}
 use Rattle.wf_args.specs.declared.read.LineFault.TheVariants as words
 use Rattle.wf_machine.specs.Outcome.{IsResult}
 use Rattle.wf_model.specs.Config.{Config, Outcome, Active}
-use Rattle.wf_host.specs.Printing.{PrintsFront, PrintsWhole, LeavesSome, TookNothing, PrintedSoFar}
+use Rattle.wf_host.specs.Printing.{PrintsFront, PrintsWhole, LeavesSome, TookNothing, PrintedSoFar, printed}
 use Rattle.wf_deeds.specs.At.{journal, next_session}
 use Rattle.wf_deeds.specs.History.{Standing, history}
 use Rattle.wf_deeds.specs.Language.{Language}
 use Rattle.wf_deeds.specs.HistoryLaws.{IsHistory}
-use Rattle.wf_report.specs.Journals.{MayHaveRecords}
 use Rattle.wf_report.specs.Texts.{logged, shown}
 use Rattle.std.specs.declared.alloc.Global.{Global}
 use Rattle.wf_replay.specs.TheLanguage.{the_language}
@@ -150,6 +150,10 @@ SaysFault engine.OutOfMemory r = r ≡ Err silence.OutOfMemory
 abbrev pub Unwritten : World → World → Type 0
 Unwritten old new = LeavesOnly old new (λ c d. old.may_leave c) × (new.seen ≡ old.seen)
 
+-- by any moment it has polled at most so often
+abbrev pub PolledAtMost : World → World → ℕ → Type 0
+PolledAtMost old new most = LeavesOnly old new (λ image all. Since old all (λ D. polls D ≤ most))
+
 -- its deeds have printed nothing
 pub record DoneSilently (old new : World) : Type 0 where
   pub done : List Deed
@@ -201,6 +205,9 @@ FaultHolds L s engine.OutOfMemory = Unit {0}
 pub record Opening (O : Outside) (command : kept.Command) (s : Scene) (old new : World) (r : Result Engine EngineFault) : Type 0 where
   pub silently : DoneSilently old new
   pub safe : SafeSince the_language O s old new
+  -- by any moment, and now, nothing was sent or awaited
+  pub small : LeavesOnly old new (λ image all. Since old all (λ D. AllByRecursion IsSmall D))
+  pub small_now : AllByRecursion IsSmall silently.done
   pub opened : IfOk r (IsOpened the_language O command s silently.done new)
   pub fault : IfErr r (FaultHolds the_language s)
   pub late : IfErr r (λ f. (f ≡ engine.AlreadyStarted) ⊎ (f ≡ engine.NotStarted) → LateNow the_language O s old new)
@@ -221,16 +228,16 @@ SaysTelling (Ok text) r = SaysReport (string_bytes text) r
 SaysTelling (Err f) r = SaysFault f r
 
 -- a text of a line that tells of a history, where these are the records that are found
-abbrev pub TellsOf : PlainLine → List (List ℕ) → List ℕ → Type 0
-TellsOf l J text = (s : Scene) → end.IsLine s l → records s.found ≡ J → end.TellsHistory the_language the_reports s text
+abbrev pub IsToldOf : PlainLine → List (List ℕ) → List ℕ → Type 0
+IsToldOf l J text = (s : Scene) → end.IsLine s l → records s.found ≡ J → end.TellsHistory the_language the_reports s text
 
 -- A journal was read for a report, where the host tells: the text, or why there is none. Nothing else was done.
 pub record ReadsJournal (l : PlainLine) (old new : World) (r : Result (String Global) EngineFault) : Type 0 where
-  pub told : IfOk r (λ text. TellsOf l (records old.seen) (string_bytes text))
+  pub told : IfOk r (λ text. IsToldOf l (records old.seen) (string_bytes text))
   pub begins : OnOk r (take 4 old.seen ≡ magic)
   pub is_history : OnOk r (IsHistory the_language (records old.seen))
   pub not_a_journal : IsErrOf r engine.NotAJournal → (5 ≤ length old.seen) × (take 4 old.seen ≢ magic)
-  pub not_started : IsErrOf r engine.NotStarted → (records old.seen ≡ []) × MayHaveRecords old.seen
+  pub not_started : IsErrOf r engine.NotStarted → (records old.seen ≡ []) × IsJournal old.seen
   pub not_a_history : IfErr r (λ e. (n : ℕ) → e ≡ engine.NotAHistory n → (history the_language (records old.seen) ≡ Err n) × (records old.seen ≢ []) × (take 4 old.seen ≡ magic))
   pub settled : OnOk r (Only new.seen new.may_leave)
   pub settled_empty : IsErrOf r engine.NotStarted → Only new.seen new.may_leave
@@ -258,9 +265,9 @@ pub record SaysHistory (L : Language) (waits : ℕ) (new : World) (done : List D
   pub says : SaysStanding waits said standing.config.outcome done
   pub settled : Only new.seen new.may_leave
 
--- an execution that goes on to its outcome, and polls at most so often, where the host tells
+-- an execution that goes on to its outcome, and by any moment has polled at most so often, where the host tells
 pub record Going (L : Language) (O : Outside) (command : kept.Command) (m : Memory) (waits : ℕ) (D : List Deed) (old new : World) (r : Result Said Silence) : Type 0 where
-  pub moments : LeavesOnly old new (Moment old (KeptAt L O command false m (records old.seen) D))
+  pub moments : LeavesOnly old new (Moment old (KeptAt L O command false m waits (records old.seen) D))
   pub silently : DoneSilently old new
   pub said : IfOk r (SaysHistory L waits new silently.done)
   pub ends : IfOk r (λ said. MayEnd L O (session_of command false m (records new.seen) (D ++ silently.done)) (status_code said.status))
@@ -269,7 +276,7 @@ pub record Going (L : Language) (O : Outside) (command : kept.Command) (m : Memo
 -- ## What a command has done before it prints
 -- a text with its cause, or why there is none
 abbrev pub IsEnd : Scene → World → World → ℕ → ℕ → Faults → Faults → Result Said Silence → Type 0
-IsEnd s old new reads reads2 faults faults2 (Ok said) = Says s old new said.status said.text.items
+IsEnd s old new reads reads2 faults faults2 (Ok said) = HasToSay s old new said.status said.text.items
 IsEnd s old new reads reads2 faults faults2 (Err silence.Unread) = IsLineOf s (λ c. uses_source c ≡ true) × ¬ IsBadArgument s × Rose reads reads2
 IsEnd s old new reads reads2 faults faults2 (Err silence.DiskFault) = IsLineOf s (λ c. uses_journal c ≡ true) × IsTaken s × Rose faults.disk faults2.disk
 IsEnd s old new reads reads2 faults faults2 (Err silence.PollFault) = IsLineOf s (λ c. executes c ≡ true) × IsTaken s × Told old (IsPassed the_language s status.PollFault) × Rose faults.poll faults2.poll
@@ -280,17 +287,19 @@ abbrev pub MayWrite : Scene → Type 0
 MayWrite s = IsLineOf s (λ c. executes c ≡ true) × IsTaken s
 
 -- The work of a command, where the host tells: what a crash by then may leave is safe, the text is given for each file that one may leave now,
--- the command may end with the status, and where nothing is to be written nothing was.
+-- the command may end with the status, and where nothing is to be written nothing was, nor done.
 pub record Worked (O : Outside) (s : Scene) (old new : World) (r : Result Said Silence) : Type 0 where
   pub silently : DoneSilently old new
   pub safe : SafeSince the_language O s old new
-  pub gives : IfOk r (λ said. (image : List ℕ) → new.may_leave image → Gives the_language s image silently.done said.status said.text.items)
+  pub gives : IfOk r (λ said. (image : List ℕ) → new.may_leave image → MayPrint the_language s image silently.done said.status said.text.items)
   pub ends : IfOk r (λ said. MayEndNow the_language O s old new said.status)
   pub late : IfOk r (λ said. IsBehindSync s said.status → LateNow the_language O s old new)
   pub finished : (st : Standing) → IsLineOf s (λ c. c ≡ Resume) → history the_language (records s.found) ≡ Ok st → st.config.outcome ≢ Active → Unwritten old new × (new.deeds ≡ old.deeds)
-  pub refused : HasOtherMagic s ⊎ IsStarted s ⊎ IsNotStarted s ⊎ ((n : ℕ) × IsNoHistory the_language s n) → Unwritten old new
+  pub refused : HasOtherMagic s ⊎ IsStarted s ⊎ IsNotStarted s ⊎ ((n : ℕ) × IsNoHistory the_language s n) → Unwritten old new × AllByRecursion IsSmall silently.done
   pub writes : Unwritten old new ⊎ MayWrite s
-  pub idle : IsLineOf s (λ c. executes c ≡ false) ⊎ IsBadArgument s → new.deeds ≡ old.deeds
+  pub idle : ¬ MayWrite s → new.deeds ≡ old.deeds
+  pub unread : IsErrOf r silence.Unread → Unwritten old new × (new.deeds ≡ old.deeds)
+  pub polled : (l : PlainLine) → end.IsLine s l → PolledAtMost old new (waits_of l)
 
 -- ## Printing
 -- what is printed of it
@@ -306,10 +315,10 @@ silent_status silence.PollFault = status.PollFault
 silent_status silence.OutOfMemory = status.OutOfMemory
 
 -- the text was printed whole, or some of it is left, or nothing was done
-abbrev pub Tells : Result Said Silence → World → World → Faults → Faults → Status → Type 0
-Tells (Ok said) old new faults faults2 st = ((st ≡ said.status) × Told old (PrintsWhole old new said.text.items))
+abbrev pub PrintsSaid : Result Said Silence → World → World → Faults → Faults → Status → Type 0
+PrintsSaid (Ok said) old new faults faults2 st = ((st ≡ said.status) × Told old (PrintsWhole old new said.text.items))
     ⊎ ((st ≡ status.PrintFault) × (Rose faults.print faults2.print ⊎ Told old (TookNothing old new)) × Told old (LeavesSome old new said.text.items))
-Tells (Err s) old new faults faults2 st = (st ≡ silent_status s) × Told old (new.deeds ≡ old.deeds)
+PrintsSaid (Err s) old new faults faults2 st = (st ≡ silent_status s) × Told old (new.deeds ≡ old.deeds)
 
 -- a front of the text was printed and nothing else done, at each moment and at the end
 pub record Printing (text : List ℕ) (old new : World) : Type 0 where

@@ -1,10 +1,11 @@
 -- What the top call promises: how a command may end, and a row for each status, in the order in which causes are looked at.
 --     Ends          how the call ends, and what it printed
 --     Exactly       a status with its cause and its line
-use Rattle.std.specs.Prelude.{◌≡◌, ◌≢◌, ◌⊎◌, ◌<◌, ℕ, true, false, List, [], ◌∷◌, ◌++◌, Contains, Some, None, Ok, codes, decimal}
+use Rattle.std.specs.Prelude.{◌≡◌, ◌≢◌, ◌⊎◌, ◌<◌, ◌≤◌, ℕ, true, false, List, [], ◌∷◌, ◌++◌, Contains, Some, None, Ok, codes, decimal}
 use Rattle.std.specs.List.{AllByRecursion}
 use Rattle.wf_cli.specs.Reports.{the_reports}
-use Rattle.wf_deeds.specs.Deeds.{printed}
+use Rattle.wf_deeds.specs.Deeds.{IsSmall, polls}
+use Rattle.wf_host.specs.Printing.{AllPrints, printed}
 use Rattle.wf_engine.specs.Printed as end
 use Rattle.wf_engine.specs.Printed.{Scene, uses_source, executes, status_of, outcome_text, accepted_text, uses_journal, tells_history}
 pub use Rattle.wf_engine.specs.Printed.{IsLine, IsBadLine, IsBadArgument, IsLineOf, IsRefused, IsChecked, HasOtherMagic, IsStarted, IsNotStarted}
@@ -15,7 +16,7 @@ use Rattle.wf_host.specs.World.{World, Faults, Told, LeavesOnly, Rose}
 use Rattle.wf_host.specs.declared.data.Deed.{Deed}
 use Rattle.wf_host.specs.declared.data.Deed.TheVariants.{Print}
 use Rattle.wf_journal.specs.Records.{records}
-use Rattle.wf_args.specs.Lines.{PlainLine}
+use Rattle.wf_args.specs.Lines.{PlainLine, waits_of}
 use Rattle.wf_args.specs.declared.command.Command.TheVariants.{Check, Format, Resume}
 use Rattle.wf_model.specs.Config.{Outcome, Active}
 use Rattle.wf_deeds.specs.History.{Standing, history}
@@ -58,13 +59,8 @@ TellsHistory L s text = end.TellsHistory L the_reports s text
 abbrev pub IsSuspended : Language → Scene → List ℕ → List Deed → Type 0
 IsSuspended L s image D = end.IsSuspended L the_reports s image D
 
-abbrev pub Gives : Language → Scene → List ℕ → List Deed → Status → List ℕ → Type 0
-Gives L s image D st text = end.Gives L the_reports s image D st text
-
--- a deed that prints
-abbrev pub IsPrint : Deed → Type 0
-IsPrint (Print b) = Unit {0}
-IsPrint d = ⊥
+abbrev pub MayPrint : Language → Scene → List ℕ → List Deed → Status → List ℕ → Type 0
+MayPrint L s image D st text = end.MayPrint L the_reports s image D st text
 
 -- where the source tells, it isn't refused
 abbrev pub IsAccepted : Scene → Type 0
@@ -107,12 +103,12 @@ pub record HasNoCauseInFile (L : Language) (s : Scene) : Type 0 where
   pub history : (n : ℕ) → ¬ IsNoHistory L s n
 
 -- a status and its text; one that the file decides is told in the language, of the file that the call leaves and of its deeds
-pub data Says (s : Scene) (old new : World) : Status → List ℕ → Type 0 where
-  bad_line : (n : ℕ) → IsBadLine s n → Says s old new (status.BadLine n) (line_end (codes "bad line at word " ++ decimal n))
-  bad_argument : IsBadArgument s → Says s old new status.BadArgument (line_end (codes "bad argument"))
-  refused : (r : Refusal) → IsRefused s r → ¬ IsBadArgument s → Says s old new (status.Refused r) (line_end (refusal_text r))
-  reported : (text : List ℕ) → Reported s text → ReadsBack s text → Says s old new status.Done text
-  of_file : (st : Status) (text : List ℕ) → IsOfFile st → IsLineOf s (λ c. uses_journal c ≡ true) → IsTaken s → Told old (Since old new.deeds (λ D. Gives the_language s new.seen D st text) × IsPassed the_language s st) → Says s old new st text
+pub data HasToSay (s : Scene) (old new : World) : Status → List ℕ → Type 0 where
+  bad_line : (n : ℕ) → IsBadLine s n → HasToSay s old new (status.BadLine n) (line_end (codes "bad line at word " ++ decimal n))
+  bad_argument : IsBadArgument s → HasToSay s old new status.BadArgument (line_end (codes "bad argument"))
+  refused : (r : Refusal) → IsRefused s r → ¬ IsBadArgument s → HasToSay s old new (status.Refused r) (line_end (refusal_text r))
+  reported : (text : List ℕ) → Reported s text → ReadsBack s text → HasToSay s old new status.Done text
+  of_file : (st : Status) (text : List ℕ) → IsOfFile st → IsLineOf s (λ c. uses_journal c ≡ true) → IsTaken s → Told old (Since old new.deeds (λ D. MayPrint the_language s new.seen D st text) × IsPassed the_language s st) → HasToSay s old new st text
 
 -- what the status tells was read behind the opening's sync
 abbrev pub IsBehindSync : Scene → Status → Type 0
@@ -146,8 +142,8 @@ module _ (x : Call) where
   -- took nothing; without a source, since a read failed; without the file, since the disk failed; without hearing, since a poll failed; or
   -- without memory.
   pub data Ends : Type 0 where
-    said : (text : List ℕ) → Says x.scene x.old x.new x.status text → Prints text → Ends
-    cut : (st : Status) (text : List ℕ) → x.status ≡ status.PrintFault → Says x.scene x.old x.new st text → Rose x.faults_old.print x.faults_new.print ⊎ TookNothing → PrintsSome text → Ends
+    said : (text : List ℕ) → HasToSay x.scene x.old x.new x.status text → Prints text → Ends
+    cut : (st : Status) (text : List ℕ) → x.status ≡ status.PrintFault → HasToSay x.scene x.old x.new st text → Rose x.faults_old.print x.faults_new.print ⊎ TookNothing → PrintsSome text → Ends
     unread : x.status ≡ status.ReadFault → IsLineOf x.scene (λ c. uses_source c ≡ true) → ¬ IsBadArgument x.scene → Rose x.reads_old x.reads_new → Prints [] → Ends
     failed : x.status ≡ status.DiskFault → IsLineOf x.scene (λ c. uses_journal c ≡ true) → IsTaken x.scene → Rose x.faults_old.disk x.faults_new.disk → Prints [] → Ends
     unheard : x.status ≡ status.PollFault → IsLineOf x.scene (λ c. executes c ≡ true) → IsTaken x.scene → Told x.old (IsPassed the_language x.scene status.PollFault) → Rose x.faults_old.poll x.faults_new.poll → Prints [] → Ends
@@ -263,25 +259,41 @@ module _ (x : Call) where
   abbrev pub WritesNothing : Type 0
   WritesNothing = LeavesOnly x.old x.new (λ c d. x.old.may_leave c) × (x.new.seen ≡ x.old.seen)
 
-  -- a command that executes nothing doesn't write, and does nothing but print
-  abbrev pub ReportsStay : Type 0
-  ReportsStay = IsLineOf x.scene (λ c. executes c ≡ false) → WritesNothing × Deeds x (λ D. AllByRecursion IsPrint D)
+  -- nothing is written, and nothing but prints is done
+  abbrev pub OnlyPrints : Type 0
+  OnlyPrints = WritesNothing × Deeds x AllPrints
 
-  -- where the words are no line, or the argument or the source is refused, nothing is written; of an argument nothing but prints is done
+  -- a command that executes nothing
+  abbrev pub ReportsStay : Type 0
+  ReportsStay = IsLineOf x.scene (λ c. executes c ≡ false) → OnlyPrints
+
   pub record SilentStays : Type 0 where
-    pub bad_line : (n : ℕ) → IsBadLine x.scene n → WritesNothing
-    pub bad_argument : IsBadArgument x.scene → WritesNothing × Deeds x (λ D. AllByRecursion IsPrint D)
-    pub refused : WhereTold x.scene.source ((r : Refusal) → IsRefused x.scene r → WritesNothing)
+    -- where the words are no line
+    pub bad_line : (n : ℕ) → IsBadLine x.scene n → OnlyPrints
+    -- where the argument is refused
+    pub bad_argument : IsBadArgument x.scene → OnlyPrints
+    -- where the source is refused
+    pub refused : WhereTold x.scene.source ((r : Refusal) → IsRefused x.scene r → OnlyPrints)
+    -- where it couldn't be read: nothing was begun
+    pub unread : x.status ≡ status.ReadFault → OnlyPrints
+
+  -- ## How often it polls
+  -- never more often than its line says, whatever the status
+  pub record PollsWithin : Type 0 where
+    -- by any moment
+    pub moments : (l : PlainLine) → IsLine x.scene l → LeavesOnly x.old x.new (λ image all. Since x.old all (λ D. polls D ≤ waits_of l))
+    -- and at the end
+    pub at_end : (l : PlainLine) → IsLine x.scene l → Deeds x (λ D. polls D ≤ waits_of l)
 
 module _ (L : Language) (x : Call) where
   -- a finished journal isn't written, and nothing but prints is done
   abbrev pub FinishedStays : Type 0
-  FinishedStays = (s : Standing) → IsLineOf x.scene (λ c. c ≡ Resume) → history L (records x.scene.found) ≡ Ok s → s.config.outcome ≢ Active
-      → WritesNothing x × Deeds x (λ D. AllByRecursion IsPrint D)
+  FinishedStays = (s : Standing) → IsLineOf x.scene (λ c. c ≡ Resume) → history L (records x.scene.found) ≡ Ok s → s.config.outcome ≢ Active → OnlyPrints x
 
-  -- a journal that is refused isn't written
+  -- a journal that is refused isn't written, and nothing but prints and readings of the clock is done
   abbrev pub RefusedStays : Type 0
-  RefusedStays = (HasOtherMagic x.scene ⊎ IsStarted x.scene ⊎ IsNotStarted x.scene ⊎ ((n : ℕ) × IsNoHistory L x.scene n)) → WritesNothing x
+  RefusedStays = (HasOtherMagic x.scene ⊎ IsStarted x.scene ⊎ IsNotStarted x.scene ⊎ ((n : ℕ) × IsNoHistory L x.scene n))
+      → WritesNothing x × Deeds x (λ D. AllByRecursion IsSmall D)
 
   -- ## Crashes
   -- a crash at any moment leaves a file that is safe with what was done by then

@@ -2,7 +2,7 @@
 ghost use Rattle.std.specs.Prelude.{◌≡◌, ◌≤◌, ℕ, List, Ok};
 ghost use Rattle.wf_cli.specs.Calls.{called};
 ghost use Rattle.wf_cli.specs.Promises.{Promised};
-ghost use Rattle.wf_cli.specs.Said.{IsEnd, Printing, SaysBadLine, SaysReport, Tells, Worked, text_of};
+ghost use Rattle.wf_cli.specs.Said.{IsEnd, Printing, SaysBadLine, SaysReport, PrintsSaid, Worked, text_of};
 ghost use Rattle.wf_engine.specs.Safe.{scene};
 ghost use Rattle.wf_engine.specs.TheOutside.{InTheOutside};
 ghost use Rattle.wf_host.specs.Calls.{NoCountFalls, TellsAsBefore};
@@ -24,7 +24,7 @@ use wf_status::Status;
 
 /// Prints what a command has to say, and gives the status.
 fn tell<H: Host>(host: &mut H, said: Result<Said, Silence>) -> Status
-    ensures ends { Tells said (H.world host.old) (H.world host.new) (H.faults host.old)
+    ensures ends { PrintsSaid said (H.world host.old) (H.world host.new) (H.faults host.old)
         (H.faults host.new) result }
     ensures printing { Told (H.world host.old)
         (Printing (text_of said) (H.world host.old) (H.world host.new)) }

@@ -12,7 +12,8 @@ use Rattle.wf_connections.specs.Calls.{is_started, is_dropped, listens, told, Is
 use Rattle.wf_connections.specs.Lines.{used_at, dropped_at, heard_at, told_at, told_by, adds, HasRead, IsReadAs, AreRead, is_used, is_heard, is_dropped as was_dropped, AreSame}
 use Rattle.wf_connections.proofs.Changes.{at_past, at_read, at_set, at_other, at_equal, at_yes, at_no, at_none, unused_at}
 use Rattle.wf_connections.proofs.Tells.{told_more, tells_other}
-use Rattle.wf_deeds.specs.Deeds.{nothing_told, tells, call_of}
+use Rattle.wf_deeds.specs.Deeds.{nothing_told, tells}
+use Rattle.wf_host.specs.World.{call_of}
 use Rattle.wf_host.specs.declared.data.What.{What}
 use Rattle.wf_http_in.specs.declared.reading.Reading.{Reading}
 

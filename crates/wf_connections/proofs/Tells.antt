@@ -5,7 +5,8 @@ use Rattle.std.proofs.lemmas.Bool.Decides.{eqb_tells}
 use Rattle.std.proofs.lemmas.List.Sums.{fold-append}
 use Rattle.wf_connections.specs.declared.line.Line.{Line}
 use Rattle.wf_connections.specs.Lines.{Heard, HasRead, IsReadAs, told_by}
-use Rattle.wf_deeds.specs.Deeds.{Told, nothing_told, tells, call_of}
+use Rattle.wf_deeds.specs.Deeds.{Told, nothing_told, tells}
+use Rattle.wf_host.specs.World.{call_of}
 use Rattle.wf_host.specs.declared.data.What.{What}
 use Rattle.wf_host.specs.declared.data.What.TheVariants as what
 use Rattle.wf_http_in.specs.Stages.{HasHeard}

@@ -1,7 +1,8 @@
 // The line to one call.
 ghost use Rattle.std.specs.Prelude.{◌≡◌, ◌∷◌, [], ◌++◌, ℕ, true, false, if◌then◌else◌, is_ok, IfOk, Some};
 ghost use Rattle.wf_connections.specs.Lines.{HasRead, IsRead, adds, is_dropped, is_heard, is_used};
-ghost use Rattle.wf_deeds.specs.Deeds.{Told, call_of, tells};
+ghost use Rattle.wf_deeds.specs.Deeds.{Told, tells};
+ghost use Rattle.wf_host.specs.World.{call_of};
 
 use http_server::Log;
 use std::alloc::Global;

@@ -1,7 +1,7 @@
 // The lines to calls, by the calls' numbers.
 ghost use Rattle.std.specs.Prelude.{◌≡◌, ◌<◌, ℕ, length, OnOk};
 ghost use Rattle.wf_connections.specs.Lines.{AreRead, AreSame};
-ghost use Rattle.wf_deeds.specs.Deeds.{call_of};
+ghost use Rattle.wf_host.specs.World.{call_of};
 
 use crate::line::Line;
 use wf_host::What;

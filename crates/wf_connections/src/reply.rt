@@ -1,5 +1,5 @@
 // Answers, copied.
-ghost use Rattle.std.specs.Prelude.{◌≡◌, ◌∷◌, [], ◌++◌, IfOk, OnOk, List, ℕ, option_map};
+ghost use Rattle.std.specs.Prelude.{◌≡◌, IfOk, List, ℕ, option_map};
 ghost use Rattle.wf_http_in.specs.AnswerOf.{AnswerOf};
 ghost use Rattle.wf_http_in.specs.Stages.{HasHeard};
 ghost use Rattle.wf_http_in.specs.View.{answer_view};
@@ -8,7 +8,7 @@ ghost use Rattle.wf_value.specs.HttpBody.{Close};
 
 use std::alloc::Global;
 use wf_callbacks::Fields;
-use wf_http_in::{Answer, Head, Reading};
+use wf_http_in::{Answer, Reading};
 use wf_record_parts::{Reply, Response};
 use wf_value::{Bytes, OutOfMemory};
 
@@ -29,32 +29,10 @@ fn reply_of(alloc: Global, answer: &Answer<'_>) -> Result<Reply, OutOfMemory>
     match *answer {
         Answer::Response(head, body) => Ok(Reply::Response(Response {
             code: head.code(),
-            headers: fields_of(alloc, head)?,
+            headers: Fields::copied(alloc, head.fields())?,
             body: Bytes::new(alloc, body)?,
         })),
         Answer::Broken => Ok(Reply::Broken),
         Answer::TooLong => Ok(Reply::TooLong),
     }
-}
-
-fn fields_of(alloc: Global, head: &Head) -> Result<Fields, OutOfMemory>
-    ensures { IfOk result (λ f. f ≡ head.now.fields) }
-{
-    let mut fields = Fields::new(alloc)?;
-    while let Some((name, value)) = head.field(fields.items().len()) {
-        add_field(alloc, &mut fields, name, value)?;
-    }
-    Ok(fields)
-}
-
-fn add_field(
-    alloc: Global,
-    fields: &mut Fields,
-    name: &str,
-    value: &[u8],
-) -> Result<(), OutOfMemory>
-    ensures { OnOk result (fields.new ≡ fields.old ++ (name.now, value.now) ∷ []) }
-{
-    let name = Bytes::new(alloc, name.as_bytes())?;
-    fields.push(name, Bytes::new(alloc, value)?)
 }

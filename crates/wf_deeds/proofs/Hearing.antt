@@ -13,7 +13,8 @@ use Rattle.wf_deeds.proofs.Sending.{stands_at, quiet_at, last_split}
 use Rattle.wf_deeds.proofs.Splits.{split_of_more}
 use Rattle.wf_deeds.proofs.Telling.{told_of_new, told_of_started, visits_on-append}
 use Rattle.wf_deeds.proofs.Visits.{bool_case, decision_is, find_put, undecided_put, weight_of, piece, piece_by, heard_is, piece_number}
-use Rattle.wf_deeds.specs.Deeds.{polls, nows, poll_readings, greatest, reading_by, was_started, was_dropped, was_replied, before_poll, Told, tells, told_of, IsAnswered, ComesTo, call_of, Visit, Decision, decision, visit_of, visits_after, hears_visit, put_visit, find_visit, undecided as undecided_in, poll_at}
+use Rattle.wf_deeds.specs.Deeds.{polls, nows, poll_readings, greatest, reading_by, was_started, was_dropped, was_replied, before_poll, Told, tells, told_of, IsAnswered, ComesTo, Visit, Decision, decision, visits_after, hears_visit, put_visit, find_visit, undecided as undecided_in, poll_at}
+use Rattle.wf_host.specs.World.{call_of, visit_of}
 use Rattle.wf_deeds.specs.Kept.{IsOpen, Decides, own, reading_of, last_of}
 use Rattle.wf_deeds.specs.Memory.{Owed, Memory, IsAnswerTo, IsOfOutside, session, forgotten, ComesNow, IsAnswerBy, Brings, decided_by, owes_by, arrival_by, visit_by, decision_by}
 use Rattle.wf_deeds.specs.Outside.{Outside, Verdict, Arrives, Refuses}

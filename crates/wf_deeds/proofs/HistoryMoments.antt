@@ -145,7 +145,7 @@ last_by s (b ∷ bs) t is =
     ]) refl is
 
 -- the turns of records that are turns
-turns_are : (bs : List (List ℕ)) (ts : List Turn) → map meaning bs ≡ map (λ t. Some (Turned t)) ts → turns_in bs ≡ ts
+pub turns_are : (bs : List (List ℕ)) (ts : List Turn) → map meaning bs ≡ map (λ t. Some (Turned t)) ts → turns_in bs ≡ ts
 turns_are [] [] meant = refl
 turns_are [] (u ∷ us) meant = absurd cc
 turns_are (b ∷ bs) [] meant = absurd cc
@@ -154,7 +154,7 @@ turns_are (b ∷ bs) (u ∷ us) meant =
     ∙ ap (λ ts. u ∷ ts) (turns_are bs us (same_tail (meaning b) (Some (Turned u)) (map meaning bs) (map (λ t. Some (Turned t)) us) meant))
 
 -- the journal of a history
-journal_of : (L : Language) (b : List ℕ) (bs : List (List ℕ)) (c : Config) (h : History L (b ∷ bs) c) → journal L (b ∷ bs) ≡ Some (record { start = h.start; program = h.program; turns = h.turns })
+pub journal_of : (L : Language) (b : List ℕ) (bs : List (List ℕ)) (c : Config) (h : History L (b ∷ bs) c) → journal L (b ∷ bs) ≡ Some (record { start = h.start; program = h.program; turns = h.turns })
 journal_of L b bs c h =
     ap (λ r. begins L r (turns_in bs)) (same_head (meaning b) (Some (Started h.start)) (map meaning bs) (map (λ t. Some (Turned t)) h.turns) h.meanings)
     ∙ ap (λ o. option_map (λ p. record { start = h.start; program = p; turns = turns_in bs }) o) h.accepted

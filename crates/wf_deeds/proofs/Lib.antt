@@ -18,3 +18,6 @@ mod Histories
 mod HistoryMoments
 mod Runs
 pub mod Steps
+mod TheOutside
+mod Taking
+mod Waits

@@ -2,7 +2,8 @@
 use Rattle.std.specs.Prelude.{◌≡◌, ◌||◌, ℕ, Bool, true, false, nat_eq, if◌then◌else◌, List, [], ◌∷◌, ◌++◌}
 use Rattle.std.proofs.Common.{refl, ◌∙◌, ap, arith}
 use Rattle.wf_deeds.proofs.Lists.{IsNoPoll}
-use Rattle.wf_deeds.specs.Deeds.{polls, before_poll, was_started, Told, nothing_told, tells, told_on, told_of, Visit, visit_of, hears_visit, visits_on, visits_after}
+use Rattle.wf_deeds.specs.Deeds.{polls, before_poll, was_started, Told, nothing_told, tells, told_on, told_of, Visit, hears_visit, visits_on, visits_after}
+use Rattle.wf_host.specs.World.{visit_of}
 use Rattle.wf_deeds.specs.Outside.{Outside}
 use Rattle.wf_host.specs.declared.data.Deed.{Deed}
 use Rattle.wf_host.specs.declared.data.Deed.TheVariants.{Start, Poll, Now, Reply, Drop, Print}

@@ -12,7 +12,8 @@ use Rattle.wf_deeds.proofs.Lists.{polls-append, poll_found, split_at}
 use Rattle.wf_deeds.proofs.Sending.{reads_at, last_split}
 use Rattle.wf_deeds.proofs.TurnMore.{Journals, own_more, before_stays, config_stays, first_stays}
 use Rattle.wf_deeds.proofs.Visits.{bool_case}
-use Rattle.wf_deeds.specs.Deeds.{polls, reading_by, starts_or_polls, Split, Told, told_of, IsAnswered, call_of, visit_of, Decision, decision, decision_of, find_visit, visits_after}
+use Rattle.wf_deeds.specs.Deeds.{polls, reading_by, starts_or_polls, Split, Told, told_of, IsAnswered, Decision, decision, decision_of, find_visit, visits_after}
+use Rattle.wf_host.specs.World.{call_of, visit_of}
 use Rattle.wf_deeds.specs.Kept.{Session, StandsFirst, IsOpen, Answers, AnsweredAt, DecidedAt, own, config, reading_of, last_of}
 use Rattle.wf_deeds.specs.Memory.{Memory, IsAnswerTo, IsOfOutside, session}
 use Rattle.wf_deeds.specs.Outside.{Outside, Verdict, Arrives}

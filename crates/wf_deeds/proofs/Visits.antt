@@ -2,7 +2,8 @@
 use Rattle.std.specs.Prelude.{◌≡◌, ◌+◌, ◌||◌, ℕ, suc, Bool, true, false, nat_eq, is_some, if◌then◌else◌, List, [], ◌∷◌, Option, Some, None, option_map, option_and_then}
 use Rattle.std.proofs.Common.{refl, sym, ◌∙◌, ap, arith}
 use Rattle.std.proofs.lemmas.Bool.{eq-eqb, eqb-true, ne_eqb}
-use Rattle.wf_deeds.specs.Deeds.{Told, nothing_told, Visit, visit_of, tells_visit, undecided, find_visit, put_visit, decision_of, decision, with_piece}
+use Rattle.wf_deeds.specs.Deeds.{Told, nothing_told, Visit, tells_visit, undecided, find_visit, put_visit, decision_of, decision, with_piece}
+use Rattle.wf_host.specs.World.{visit_of}
 use Rattle.wf_deeds.specs.Memory.{forgotten, decision_by, visit_by}
 use Rattle.wf_deeds.specs.Outside.{Outside}
 use Rattle.wf_deeds.specs.Steps.{weight}

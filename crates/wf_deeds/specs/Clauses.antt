@@ -1,11 +1,12 @@
 -- The clauses of an engine's calls, over its memory and the host before and behind a call.
 --     Went            the engine stands for each list for which it stood, with the call's own deeds
 --     IsOfSession     a record that is no turn of another session
---     KeptAt          a moment of a call: a history under the rules
+--     KeptAt          a moment of a call: a history under the rules, and at most so many polls
 --     AddsTurn, SendsOpen, Takes, Sessions    what the calls do besides
 use Rattle.std.specs.Prelude.{◌≡◌, ◌≢◌, ◌⊎◌, ◌≤◌, ◌&&◌, ℕ, zero, suc, Bool, true, false, not, IsTrue, is_some, if◌then◌else◌, List, [], ◌∷◌, ◌++◌, length, Option, Some, None}
 use Rattle.std.specs.List.{AllByRecursion}
-use Rattle.wf_deeds.specs.Deeds.{polls, printed}
+use Rattle.wf_deeds.specs.Deeds.{polls}
+use Rattle.wf_host.specs.Printing.{printed}
 use Rattle.wf_deeds.specs.Kept.{Command, Kept, Resume}
 use Rattle.wf_deeds.specs.Memory.{Owed, Memory, IsSettled, AllIsSent, StandsFor, session}
 use Rattle.wf_deeds.specs.Outside.{Outside, code_of}
@@ -33,8 +34,9 @@ use Rattle.wf_value.specs.HttpText.{reply_bytes}
 abbrev pub IsOfSession : ℕ → List ℕ → Type 0
 IsOfSession number payload = (t : Turn) → meaning payload ≡ Some (Turned t) → t.session ≡ number
 
--- at a moment of a call: a history that goes on from the records before, under the rules, with the deeds of the call behind those before
-pub record KeptAt (L : Language) (O : Outside) (command : Command) (handed : Bool) (m : Memory) (before : List (List ℕ)) (D : List Deed) (J : List (List ℕ)) (E : List Deed) : Type 0 where
+-- at a moment of a call that polls at most so often: a history that goes on from the records before, under the rules, with the deeds of the
+-- call behind those before
+pub record KeptAt (L : Language) (O : Outside) (command : Command) (handed : Bool) (m : Memory) (most : ℕ) (before : List (List ℕ)) (D : List Deed) (J : List (List ℕ)) (E : List Deed) : Type 0 where
   pub added : List (List ℕ)
   pub records : J ≡ before ++ added
   pub own : AllByRecursion (IsOfSession m.session) added
@@ -42,11 +44,17 @@ pub record KeptAt (L : Language) (O : Outside) (command : Command) (handed : Boo
   pub kept : Kept L O (session command handed m J (D ++ E))
   -- nothing was printed
   pub silent : printed E ≡ []
+  -- and it has polled no more often
+  pub polled : polls E ≤ most
 
--- what a crash at any moment of the call leaves is kept, for each list for which the engine stood
+-- what a crash at any moment of a call that polls at most so often leaves is kept, for each list for which the engine stood
+abbrev pub KeptWithin : Language → Outside → ℕ → Memory → World → World → Type 0
+KeptWithin L O most m old new = (command : Command) (handed : Bool) (D : List Deed) → StandsFor L O command handed m (records old.seen) D
+    → LeavesOnly old new (Moment old (KeptAt L O command handed m most (records old.seen) D))
+
+-- and of a call that doesn't poll
 abbrev pub KeptThroughout : Language → Outside → Memory → World → World → Type 0
-KeptThroughout L O m old new = (command : Command) (handed : Bool) (D : List Deed) → StandsFor L O command handed m (records old.seen) D
-    → LeavesOnly old new (Moment old (KeptAt L O command handed m (records old.seen) D))
+KeptThroughout L O m old new = KeptWithin L O 0 m old new
 
 -- ## Behind a call
 pub record Went (L : Language) (O : Outside) (m n : Memory) (old new : World) (done : List Deed) : Type 0 where
@@ -143,8 +151,8 @@ pub record Opened (L : Language) (O : Outside) (m : Memory) (old new : World) : 
   pub clock : ((m.config.outcome ≢ Active) × (done ≡ [])) ⊎ ((m.config.outcome ≡ Active) × ((t : ℕ) × (done ≡ Now t ∷ [])))
 
 -- ## The law of moments
--- with turns of the session and deeds that print nothing, behind the records before, what an engine stands for is kept
+-- with turns of the session and deeds that print nothing and poll no more often, behind the records before, what an engine stands for is kept
 abbrev pub StandsIsKept : Type 0
-StandsIsKept = (L : Language) (O : Outside) (command : Command) (handed : Bool) (m n : Memory) (before added : List (List ℕ)) (D E : List Deed)
-    → StandsFor L O command handed n (before ++ added) (D ++ E) → n.session ≡ m.session → AllByRecursion (IsOfSession m.session) added → printed E ≡ []
-    → KeptAt L O command handed m before D (before ++ added) E
+StandsIsKept = (L : Language) (O : Outside) (command : Command) (handed : Bool) (m n : Memory) (most : ℕ) (before added : List (List ℕ)) (D E : List Deed)
+    → StandsFor L O command handed n (before ++ added) (D ++ E) → n.session ≡ m.session → AllByRecursion (IsOfSession m.session) added → printed E ≡ [] → polls E ≤ most
+    → KeptAt L O command handed m most before D (before ++ added) E

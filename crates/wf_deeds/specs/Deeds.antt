@@ -4,6 +4,7 @@
 --     visits_after, decision          the visits so far, and the visit that a poll decides
 use Rattle.std.specs.Prelude.{ℕ, zero, suc, max, Bool, true, false, ◌||◌, nat_eq, nat_le, if◌then◌else◌, is_some, List, [], ◌∷◌, ◌++◌, take, Option, Some, None, option_and_then}
 use Rattle.wf_deeds.specs.Outside.{Outside}
+use Rattle.wf_host.specs.World.{visit_of}
 use Rattle.wf_host.specs.declared.data.Deed.{Deed}
 use Rattle.wf_host.specs.declared.data.Deed.TheVariants.{Start, Poll, Now, Reply, Drop, Print}
 use Rattle.wf_host.specs.declared.data.What.{What}
@@ -37,12 +38,6 @@ greatest (r ∷ rs) = max r (greatest rs)
 -- the greatest of a reading, those of the clock, and those of the first w polls
 abbrev pub reading_by : ℕ → List Deed → ℕ → ℕ
 reading_by last ds w = greatest (last ∷ nows ds ++ take w (poll_readings ds))
-
--- what was printed
-abbrev pub printed : List Deed → List ℕ
-printed [] = []
-printed (Print b ∷ ds) = b ++ printed ds
-printed (d ∷ ds) = printed ds
 
 abbrev pub was_started : ℕ → List Deed → Bool
 was_started k [] = false
@@ -122,13 +117,6 @@ IsAnswered t a = ∥ AnswerOf t.bytes t.close a ∥₁
 abbrev pub ComesTo : ℕ → List Deed → Option plain.Reply → Type 0
 ComesTo k ds a = IsAnswered (told_of k ds) a
 
--- the call of which something was told
-abbrev pub call_of : What → Option ℕ
-call_of (what.Bytes k b) = Some k
-call_of (what.End k) = Some k
-call_of (what.Broken k) = Some k
-call_of w = None
-
 -- ## Visits
 pub record Visit : Type 0 where
   pub number : ℕ
@@ -140,12 +128,6 @@ pub record Decision : Type 0 where
   pub visit : ℕ
   pub crowded : Bool
   pub told : Told
-
--- the visit of which something was told
-abbrev pub visit_of : What → Option ℕ
-visit_of (what.Visit v b) = Some v
-visit_of (what.VisitEnd v) = Some v
-visit_of w = None
 
 abbrev pub tells_visit : What → Told → Told
 tells_visit (what.Visit v b) t = record { bytes = t.bytes ++ b; close = t.close }

@@ -2,7 +2,8 @@
 --     Session     the records, the number of the session, the deeds begun by then, the command, and its end if it has ended
 --     Kept        the rules: on calls, waits, answers, readings and visits
 use Rattle.std.specs.Prelude.{◌≡◌, ◌≢◌, ◌⊎◌, ◌≤◌, ℕ, suc, Bool, true, false, IsTrue, List, [], ◌∷◌, ◌++◌, length, All, Option, Some, None}
-use Rattle.wf_deeds.specs.Deeds.{polls, nows, reading_by, was_started, was_dropped, was_replied, starts_or_polls, before_poll, Split, poll_at, ComesTo, call_of, Decision, decision, visits_after}
+use Rattle.wf_deeds.specs.Deeds.{polls, nows, reading_by, was_started, was_dropped, was_replied, starts_or_polls, before_poll, Split, poll_at, ComesTo, Decision, decision, visits_after}
+use Rattle.wf_host.specs.World.{call_of}
 use Rattle.wf_deeds.specs.Outside.{Outside, Verdict, Arrives, code_of}
 use Rattle.wf_events.specs.View.{address_view}
 use Rattle.wf_host.specs.declared.data.Address.{Address}

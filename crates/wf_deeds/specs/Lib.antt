@@ -1,10 +1,14 @@
 pub mod Outside
+pub mod Verdicts
+pub mod VerdictRows
 pub mod Deeds
 pub mod Kept
 pub mod Rules
 pub mod Memory
 pub mod Turns
 pub mod Steps
+pub mod Taking
+pub mod Waits
 pub mod Clauses
 pub mod Laws
 pub mod Language

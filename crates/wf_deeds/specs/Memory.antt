@@ -3,7 +3,8 @@
 --     StandsFor   the deeds of the session so far, over the records of the file
 use Rattle.std.specs.Prelude.{◌≡◌, ◌≢◌, ◌⊎◌, ◌≤◌, ◌&&◌, ◌||◌, ℕ, max, Bool, true, false, IsTrue, is_some, nat_le, if◌then◌else◌, List, ◌∷◌, ◌++◌, length, Option, Some, None, option_map, option_and_then, Ok}
 use Rattle.wf_ast.specs.Tree.{Program}
-use Rattle.wf_deeds.specs.Deeds.{polls, nows, reading_by, was_started, was_dropped, was_replied, poll_at, Split, Told, nothing_told, tells, told_of, IsAnswered, ComesTo, Visit, Decision, visit_of, tells_visit, find_visit, undecided, visits_after, once_asked}
+use Rattle.wf_deeds.specs.Deeds.{polls, nows, reading_by, was_started, was_dropped, was_replied, poll_at, Split, Told, nothing_told, tells, told_of, IsAnswered, ComesTo, Visit, Decision, tells_visit, find_visit, undecided, visits_after, once_asked}
+use Rattle.wf_host.specs.World.{visit_of}
 use Rattle.wf_deeds.specs.Kept.{Command, Session, Kept, StandsFirst, IsOpen, own, last_of, reading_of, Decides}
 use Rattle.wf_deeds.specs.Outside.{Outside, Verdict, Arrives, Refuses}
 use Rattle.wf_deeds.specs.Rules.{AnswersStand, RepliesAreMade, IsSent, IsBrought}

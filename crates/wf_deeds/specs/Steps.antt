@@ -3,7 +3,8 @@
 use Rattle.std.specs.Prelude.{◌≡◌, ◌≢◌, ◌⊎◌, ◌≤◌, ◌||◌, ℕ, suc, max, ◌+◌, Bool, true, false, IsTrue, is_some, nat_eq, if◌then◌else◌, List, [], ◌∷◌, ◌++◌, length, Option, Some, None}
 use Rattle.std.specs.List.{AllByRecursion}
 use Rattle.wf_ast.specs.Tree.{Program}
-use Rattle.wf_deeds.specs.Deeds.{nows, reading_by, Told, nothing_told, tells, call_of, Visit, visit_of, IsSmall}
+use Rattle.wf_deeds.specs.Deeds.{nows, reading_by, Told, nothing_told, tells, Visit, IsSmall}
+use Rattle.wf_host.specs.World.{call_of, visit_of}
 use Rattle.wf_deeds.specs.Kept.{Command, Session, Kept, IsOpen, last_of}
 use Rattle.wf_deeds.specs.Memory.{Owed, Memory, session, LeadsTo, IsSettled, AllIsSent, StandsFor, Brings, owes_by, decided_by, visit_by}
 use Rattle.wf_deeds.specs.Outside.{Outside, code_of}

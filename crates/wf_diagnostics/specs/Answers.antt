@@ -1,10 +1,11 @@
 -- What the checker's calls answer.
-use Rattle.std.specs.Prelude.{◌≡◌, ◌+◌, List, [], ◌∷◌, ◌++◌, reverse, Option, Some, None, Result, Ok, Err}
+use Rattle.std.specs.Prelude.{◌≡◌, List, ◌++◌, reverse, Option, Some, None, Result, Ok, Err}
 use Rattle.wf_ast.specs.Nodes.{Path}
 use Rattle.wf_diagnostics.specs.declared.kind.CheckKind.{CheckKind}
-use Rattle.wf_diagnostics.specs.declared.stop.Stop.{Stop}
-use Rattle.wf_diagnostics.specs.declared.stop.Stop.TheVariants as stop
+use Rattle.wf_value.specs.declared.stop.Stop.{Stop}
+use Rattle.wf_value.specs.declared.stop.Stop.TheVariants as stop
 use Rattle.wf_value.specs.Pairs.{Text}
+use Rattle.wf_value.specs.Stops.{IsOutside}
 use Rattle.wf_value.specs.declared.path.PathPart.{PathPart}
 use Rattle.wf_value.specs.declared.path.PathPart.TheVariants as part
 use Rattle.wf_diagnostics.specs.Said.{Said}
@@ -13,29 +14,18 @@ use Rattle.wf_diagnostics.specs.Said.{Said}
 abbrev pub along : Path → List PathPart → Path
 along path way = path ++ reverse way
 
--- ## Stops
-abbrev pub IsHere : CheckKind → Stop → Type 0
-IsHere k (stop.Refused j ps) = (j ≡ k) × (ps.items ≡ [])
-IsHere k stop.OutOfMemory = ⊥
-
--- the same fault seen from further out, unless there was no memory to tell it
-abbrev pub IsOutside : PathPart → Stop → Stop → Type 0
-IsOutside p s stop.OutOfMemory = Unit {0}
-IsOutside p (stop.Refused k ps) (stop.Refused j qs) = (j ≡ k) × (qs.items ≡ ps.items ++ p ∷ [])
-IsOutside p stop.OutOfMemory s = ⊥
-
 -- this is said, at each path of the part; want of memory tells nothing
-abbrev pub IsFault : Stop → (Path → Option Said) → Type 0
+abbrev pub IsFault : Stop CheckKind → (Path → Option Said) → Type 0
 IsFault (stop.Refused k way) f = (path : Path) → f path ≡ Some (record { kind = k; place = along path way.items })
 IsFault stop.OutOfMemory f = Unit {0}
 
 -- this is said first, or nothing is
-abbrev pub Tells : Result (Unit {0}) Stop → (Path → Option Said) → Type 0
-Tells (Ok u) f = (path : Path) → f path ≡ None
-Tells (Err s) f = IsFault s f
+abbrev pub IsRuleFault : Result (Unit {0}) (Stop CheckKind) → (Path → Option Said) → Type 0
+IsRuleFault (Ok u) f = (path : Path) → f path ≡ None
+IsRuleFault (Err s) f = IsFault s f
 
 -- the same, found at a key
-abbrev pub IsKeyed : Text → Result (Unit {0}) Stop → Result (Unit {0}) Stop → Type 0
+abbrev pub IsKeyed : Text → Result (Unit {0}) (Stop CheckKind) → Result (Unit {0}) (Stop CheckKind) → Type 0
 IsKeyed k (Ok u) (Ok v) = Unit {0}
 IsKeyed k (Err s) (Err outer) = IsOutside (part.Key k) s outer
 IsKeyed k found result = ⊥

@@ -80,13 +80,13 @@ module _ (L : Language) (O : Outside) (command : Command) (handed : Bool) (m : M
 -- ## Moments
 module _ (moment : StandsIsKept) (L : Language) (O : Outside) (command : Command) (handed : Bool) (m n : Memory) (D : List Deed) where
   -- with these turns of the session
-  pub kept_with : (before added : List (List ℕ)) → StandsFor L O command handed n (before ++ added) D → n.session ≡ m.session → AllByRecursion (IsOfSession m.session) added → KeptAt L O command handed m before D (before ++ added) []
-  kept_with before added s same own = moment L O command handed m n before added D [] (subst (λ E. StandsFor L O command handed n (before ++ added) E) (sym (append-nil D)) s) same own refl
+  pub kept_with : (before added : List (List ℕ)) → StandsFor L O command handed n (before ++ added) D → n.session ≡ m.session → AllByRecursion (IsOfSession m.session) added → KeptAt L O command handed m 0 before D (before ++ added) []
+  kept_with before added s same own = moment L O command handed m n 0 before added D [] (subst (λ E. StandsFor L O command handed n (before ++ added) E) (sym (append-nil D)) s) same own refl (omega arith)
 
   -- with none
-  pub kept_now : (J : List (List ℕ)) → StandsFor L O command handed n J D → n.session ≡ m.session → KeptAt L O command handed m J D J []
+  pub kept_now : (J : List (List ℕ)) → StandsFor L O command handed n J D → n.session ≡ m.session → KeptAt L O command handed m 0 J D J []
   kept_now J s same =
-      subst (λ K. KeptAt L O command handed m J D K []) (append-nil J) (kept_with J [] (subst (λ K. StandsFor L O command handed n K D) (sym (append-nil J)) s) same tt)
+      subst (λ K. KeptAt L O command handed m 0 J D K []) (append-nil J) (kept_with J [] (subst (λ K. StandsFor L O command handed n K D) (sym (append-nil J)) s) same tt)
 
 -- the record of a turn of the session
 pub turn_is_own : MeaningOfSpelling → (m : Memory) (es : List Event) → HasSpelling (Turned (turn_of_memory m es)) → IsOfSession m.session (payload_of m es)

@@ -10,7 +10,7 @@ use Rattle.wf_deeds.specs.Clauses.{IsSending, KeptThroughout, SendsOpen, StandsI
 use Rattle.wf_deeds.specs.Memory.{AllIsSent, IsSettled, Memory, StandsFor}
 use Rattle.wf_deeds.specs.Outside.{Outside}
 use Rattle.wf_engine.proofs.Sent.{Goes, OnlyNow, kept_before, kept_then, went_by, went_on}
-use Rattle.wf_engine.proofs.SentLists.{drops_starts, drops_then, just_this, silent_sending, starts_then, those_on, those_same, this_same}
+use Rattle.wf_engine.proofs.SentLists.{drops_starts, drops_then, just_this, sending_polls, silent_sending, starts_then, those_none, those_on, those_same, this_same}
 use Rattle.wf_engine.specs.Engine.{Holds, is_closed, memory}
 use Rattle.wf_engine.specs.Sending.{DropsAll, DropsOne, SameButSent, Sends, Sent, StartsAll, StartsOne, is_to_drop, is_to_start}
 use Rattle.wf_engine.specs.TheOutside.{InTheOutside}
@@ -91,7 +91,7 @@ module _ (first mid : World) (f g : Faults) (e d : Engine) (js ks : List ℕ) (s
   pub moments_then : (new : World) → InTheOutside (λ O. Told mid (KeptThroughout the_language O (memory d) mid new)) → InTheOutside (λ O. Told first (KeptThroughout the_language O (memory e) first new))
   moments_then new next = λ O told.
       let a = so.sends O told in
-      kept_then the_language O (memory e) (memory d) first mid a.done a.went (so.seen told) so.same.session (silent_sending a.sends) d.history new
+      kept_then the_language O (memory e) (memory d) first mid a.done a.went (so.seen told) so.same.session (silent_sending a.sends) (sending_polls a.sends) d.history new
       (so.moments O told) (so.holds told).0 (d.ready so.not_closed).begun (next O (told_then first mid so.tells told))
 
   pub part_then : (new : World) (h : Faults) (c : Engine) (ls ms is os : List ℕ) → Sent mid new g h d c ls ms → ((ds es : List Deed) → IsSending js ks ds → IsSending ls ms es → IsSending is os (ds ++ es)) → Sent first new f h e c is os
@@ -162,11 +162,12 @@ pub record Dropping (first now : World) (f g : Faults) (e d : Engine) (i : ℕ) 
   pub below : (k : ℕ) → k ≤ i → (memory d).dropped k ≡ (memory e).dropped k || is_to_drop (memory e) k
   pub above : (k : ℕ) → i < k → (memory d).dropped k ≡ (memory e).dropped k
 
-pub drops_first : (w : World) (f : Faults) (e : Engine) → Sent w w f f e e [] [] → Dropping w w f f e e 0
-drops_first w f e part = record {
-  part = part;
+-- up to a number where there is nothing to drop
+pub drops_first : (w : World) (f : Faults) (e : Engine) (i : ℕ) → ((k : ℕ) → k ≤ i → is_to_drop (memory e) k ≡ false) → Sent w w f f e e [] [] → Dropping w w f f e e i
+drops_first w f e i none_there part = record {
+  part = subst (λ l. Sent w w f f e e l []) (sym (those_none (is_to_drop (memory e)) 1 i (λ k lt. none_there k (omega (arith, lt))))) part;
   started = λ k. refl;
-  below = λ k le. let e0 : k ≡ 0 = omega (arith, le) in subst (λ n. (memory e).dropped n ≡ (memory e).dropped n || is_to_drop (memory e) n) (sym e0) (sym (or_none ((memory e).dropped 0)));
+  below = λ k le. sym (or_none ((memory e).dropped k)) ∙ ap (λ b. (memory e).dropped k || b) (sym (none_there k le));
   above = λ k lt. refl;
 }
 
@@ -210,11 +211,12 @@ pub record Starting (first now : World) (f g : Faults) (e d : Engine) (i : ℕ) 
   pub below : (k : ℕ) → k ≤ i → (memory d).started k ≡ (memory e).started k || is_to_start (memory e) k
   pub above : (k : ℕ) → i < k → (memory d).started k ≡ (memory e).started k
 
-pub starts_first : (w : World) (f : Faults) (e : Engine) → Sent w w f f e e [] [] → Starting w w f f e e 0
-starts_first w f e part = record {
-  part = part;
+-- up to a number where there is nothing to start
+pub starts_first : (w : World) (f : Faults) (e : Engine) (i : ℕ) → ((k : ℕ) → k ≤ i → is_to_start (memory e) k ≡ false) → Sent w w f f e e [] [] → Starting w w f f e e i
+starts_first w f e i none_there part = record {
+  part = subst (λ l. Sent w w f f e e [] l) (sym (those_none (is_to_start (memory e)) 1 i (λ k lt. none_there k (omega (arith, lt))))) part;
   dropped = λ k. refl;
-  below = λ k le. let e0 : k ≡ 0 = omega (arith, le) in subst (λ n. (memory e).started n ≡ (memory e).started n || is_to_start (memory e) n) (sym e0) (sym (or_none ((memory e).started 0)));
+  below = λ k le. sym (or_none ((memory e).started k)) ∙ ap (λ b. (memory e).started k || b) (sym (none_there k le));
   above = λ k lt. refl;
 }
 

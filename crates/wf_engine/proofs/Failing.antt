@@ -5,7 +5,7 @@
 use Rattle.std.proofs.Common.{ap, inl, inr, subst, sym, ◌∙◌}
 use Rattle.std.specs.Prelude.{◌≡◌, ◌≢◌, ◌⊎◌, ◌≤◌, ◌++◌, ℕ, true, false, [], ◌∷◌, length, take, Result, Ok, Err, IsErr, IsErrAnd, IsErrOf}
 use Rattle.wf_lemmas.proofs.Bools.{clash}
-use Rattle.wf_deeds.specs.Clauses.{KeptThroughout}
+use Rattle.wf_deeds.specs.Clauses.{KeptWithin}
 use Rattle.wf_deeds.specs.History.{Standing, history}
 use Rattle.wf_engine.specs.Engine.{OpeningMoment, is_closed, memory}
 use Rattle.wf_engine.specs.Promises.{BeginsAnExecution, OpensAnExecution, RunsASession}
@@ -17,6 +17,7 @@ use Rattle.wf_history.specs.Stands.{HasNoneOrThis}
 use Rattle.wf_host.specs.Calls.{AtAnyMoment, DiskFailed, DoesNoDeed, NoCountFalls, OneOf, OneOfOr, ReadsAsBefore, TellsAsBefore}
 use Rattle.wf_host.specs.World.{World, Faults, LeavesOnly, Only, Rose, Told}
 use Rattle.wf_host.specs.declared.data.Deed.TheVariants.{Now}
+use Rattle.wf_journal.specs.Journal.{IsJournal}
 use Rattle.wf_journal.specs.Records.{magic, records}
 use Rattle.wf_model.specs.Config.{Active}
 use Rattle.wf_replay.specs.TheLanguage.{the_language}
@@ -67,7 +68,7 @@ of_session e (inr (inr memory)) = inr (inr (inr (inr memory)))
 pub session_failed : {H : Type 0} (world : H → World) (faults : H → Faults) (before behind : Engine) (old new : H) (bound : ℕ) (e : EngineFault) (r : Result (Unit {0}) EngineFault)
     → r ≡ Err e → is_closed before ≡ false → is_closed behind ≡ true → OneOf e (fault.DiskFault ∷ fault.PollFault ∷ fault.OutOfMemory ∷ [])
     → (e ≡ fault.DiskFault → DiskFailed faults old new) → (e ≡ fault.PollFault → Rose (faults old).poll (faults new).poll)
-    → InTheOutside (λ O. is_closed before ≡ false → Told (world old) (KeptThroughout the_language O (memory before) (world old) (world new)))
+    → InTheOutside (λ O. is_closed before ≡ false → Told (world old) (KeptWithin the_language O bound (memory before) (world old) (world new)))
     → Told (world old) ((memory before).config.outcome ≢ Active → new ≡ old)
     → (memory behind).session ≡ (memory before).session → TellsAsBefore world old new → NoCountFalls faults old new
     → RunsASession world faults before behind old new bound r
@@ -96,7 +97,7 @@ session_failed world faults before behind old new bound e r is went shut one dis
 pub begin_failed : {H : Type 0} (world : H → World) (faults : H → Faults) (start : Start) (old new : H) (e : EngineFault) (r : Result Engine EngineFault)
     → r ≡ Err e → OneOf e (fault.DiskFault ∷ fault.NotAJournal ∷ fault.AlreadyStarted ∷ fault.OutOfMemory ∷ [])
     → (e ≡ fault.DiskFault → DiskFailed faults old new) → Told (world old) (e ≡ fault.NotAJournal → (5 ≤ length (world old).seen) × (take 4 (world old).seen ≢ magic))
-    → Told (world old) (e ≡ fault.AlreadyStarted → (records (world old).seen ≢ []) × ((length (world old).seen ≤ 4) ⊎ (take 4 (world old).seen ≡ magic)))
+    → Told (world old) (e ≡ fault.AlreadyStarted → (records (world old).seen ≢ []) × IsJournal (world old).seen)
     → Told (world old) (e ≡ fault.AlreadyStarted → Only (world new).seen (world new).may_leave)
     → AtAnyMoment world old new (λ c d. ((world old).may_leave c × (d ≡ (world old).deeds)) ⊎ ((records (world old).seen ≡ []) × HasNoneOrThis (world old) (record_bytes (Started start)) c d))
     → Told (world old) (((5 ≤ length (world old).seen) × (take 4 (world old).seen ≢ magic)) ⊎ (records (world old).seen ≢ []) → LeavesOnly (world old) (world new) (λ c d. (world old).may_leave c × (d ≡ (world old).deeds)))
@@ -140,7 +141,7 @@ of_open e (inr rest) = inr (inr rest)
 pub open_failed : {H : Type 0} (world : H → World) (faults : H → Faults) (before behind : ℕ) (old new : H) (e : EngineFault) (r : Result Engine EngineFault)
     → r ≡ Err e → OneOfOr e fault.NotAHistory (fault.DiskFault ∷ fault.NotStarted ∷ fault.OutOfMemory ∷ [])
     → (e ≡ fault.DiskFault → DiskFailed faults old new)
-    → Told (world old) (e ≡ fault.NotStarted → (records (world old).seen ≡ []) × ((length (world old).seen ≤ 4) ⊎ (take 4 (world old).seen ≡ magic)))
+    → Told (world old) (e ≡ fault.NotStarted → (records (world old).seen ≡ []) × IsJournal (world old).seen)
     → Told (world old) (e ≡ fault.NotStarted → Only (world new).seen (world new).may_leave)
     → Told (world old) ((n : ℕ) → e ≡ fault.NotAHistory n → (history the_language (records (world old).seen) ≡ Err n) × (records (world old).seen ≢ []) × (take 4 (world old).seen ≡ magic))
     → ReadsAsBefore world old new → AtAnyMoment world old new (OpeningMoment (world old))

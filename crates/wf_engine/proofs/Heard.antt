@@ -6,7 +6,8 @@ use Rattle.wf_ast.specs.Tree.{Program}
 use Rattle.wf_connections.specs.Calls.{StandsAsBefore}
 use Rattle.wf_connections.specs.declared.connections.Connections.{Connections}
 use Rattle.wf_deeds.specs.Clauses.{Takes}
-use Rattle.wf_deeds.specs.Deeds.{Told, IsAnswered, call_of, tells, visit_of}
+use Rattle.wf_deeds.specs.Deeds.{Told, IsAnswered, tells}
+use Rattle.wf_host.specs.World.{call_of, visit_of}
 use Rattle.wf_deeds.specs.Memory.{Memory, Owed, IsSettled, StandsFor, IsAnswerBy, Brings, arrival_by, decision_by, owes_by}
 use Rattle.wf_deeds.specs.Outside.{Outside}
 use Rattle.wf_deeds.specs.Steps.{Hears, HearingGoesOn, VisitsAre, hearing}

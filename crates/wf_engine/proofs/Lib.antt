@@ -4,7 +4,9 @@ mod Beginning
 mod Bringing
 mod Chosen
 mod Clock
+mod ClosedCalls
 mod Connected
+mod Done
 mod Failing
 mod FreshEngine
 mod Heard

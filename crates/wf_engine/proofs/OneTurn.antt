@@ -26,16 +26,16 @@ OnlyNow w = (c : List ℕ) (d : List Deed) → w.left_since w.moment c d → w.m
 
 module _ (L : Language) (O : Outside) (h : History) (w : World) (command : Command) (handed : Bool) (D : List Deed) (only : OnlyNow w) (stands : history.Stands h w) (old : history.is_new h ≡ false) where
   -- before it
-  pub turn_begun : StandsIsKept → (m : Memory) → StandsFor L O command handed m (records w.seen) D → Begun w w (KeptAt L O command handed m (records w.seen) D) []
+  pub turn_begun : StandsIsKept → (m : Memory) → StandsFor L O command handed m (records w.seen) D → Begun w w (KeptAt L O command handed m 0 (records w.seen) D) []
   turn_begun moment m s =
-      begun_over h.journal w (KeptAt L O command handed m (records w.seen) D) only stands.journal old (kept_now moment L O command handed m m D (records w.seen) s refl)
+      begun_over h.journal w (KeptAt L O command handed m 0 (records w.seen) D) only stands.journal old (kept_now moment L O command handed m m D (records w.seen) s refl)
 
   -- while it is added
   pub turn_adds : Laws → (new : World) (m : Memory) (c : Config) (es : List Event) → StandsFor L O command handed m (records w.seen) D → Choice m es c → es ≢ [] → HasSpelling (Turned (turn_of_memory m es)) → LeavesOnly w new (IsBeforeOrAfter w (payload_of m es))
-      → LeavesOnly w new (Moment w (KeptAt L O command handed m (records w.seen) D))
+      → LeavesOnly w new (Moment w (KeptAt L O command handed m 0 (records w.seen) D))
   turn_adds laws new m c es s chosen some spelled more =
       let J = records w.seen in
       let n : Memory = turned m c in
-      record_goes_on w w new (KeptAt L O command handed m J D) [] (payload_of m es) (turn_begun laws.moment m s) more
+      record_goes_on w w new (KeptAt L O command handed m 0 J D) [] (payload_of m es) (turn_begun laws.moment m s) more
       (kept_now laws.moment L O command handed m m D J s refl)
       (kept_with laws.moment L O command handed m n D J (payload_of m es ∷ []) (one_turn_more L O command handed m J D laws es c s chosen some spelled) refl (turn_is_own laws.again m es spelled, tt))

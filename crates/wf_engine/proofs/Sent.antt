@@ -1,11 +1,13 @@
 -- Going on by what is sent.
 use Rattle.std.specs.Prelude.{◌≡◌, ◌||◌, ℕ, Bool, true, false, if◌then◌else◌, nat_eq, List, [], ◌∷◌, ◌++◌, None, Some}
 use Rattle.std.specs.List.{AllByRecursion}
-use Rattle.std.proofs.Common.{refl, sym, ◌∙◌, ap, subst, append_assoc}
+use Rattle.std.proofs.Common.{refl, sym, ◌∙◌, ap, subst, append_assoc, arith}
 use Rattle.std.proofs.lemmas.Bool.{eq-eqb, eqb-true}
 use Rattle.std.proofs.lemmas.List.{append-nil}
 use Rattle.wf_deeds.specs.Clauses.{IsOfSession, KeptAt, KeptThroughout, StandsIsKept, Went}
-use Rattle.wf_deeds.specs.Deeds.{Told, nothing_told, printed}
+use Rattle.wf_deeds.proofs.Lists.{polls-append}
+use Rattle.wf_deeds.specs.Deeds.{Told, nothing_told, polls}
+use Rattle.wf_host.specs.Printing.{printed}
 use Rattle.wf_deeds.specs.Kept.{Command, Kept, IsOpen}
 use Rattle.wf_deeds.specs.Memory.{IsSettled, Memory, StandsFor}
 use Rattle.wf_deeds.specs.Outside.{Outside}
@@ -121,16 +123,24 @@ module _ (m : Memory) (k : ℕ) where
       start_goes L O m started_now m.dropped told_now law k to bytes settled active asks new (λ j. refl) (λ j. refl) told_first (told_others new)
 
 -- ## Moments
+-- what a deed prints, and how often it polls
+abbrev tally : Deed → List ℕ × ℕ
+tally e = (printed (e ∷ []), polls (e ∷ []))
+
+-- it prints nothing, and is no poll
+abbrev pub IsSilent : Deed → Type 0
+IsSilent e = tally e ≡ ([], 0)
+
 module _ (moment : StandsIsKept) (L : Language) (O : Outside) (m : Memory) where
-  kept_at : (n : Memory) (command : Command) (handed : Bool) (J : List (List ℕ)) (D E : List Deed) → StandsFor L O command handed n J (D ++ E) → n.session ≡ m.session → printed E ≡ [] → KeptAt L O command handed m J D J E
-  kept_at n command handed J D E s same silent =
-      subst (λ K. KeptAt L O command handed m J D K E) (append-nil J) (moment L O command handed m n J [] D E (subst (λ K. StandsFor L O command handed n K (D ++ E)) (sym (append-nil J)) s) same tt silent)
+  kept_at : (n : Memory) (command : Command) (handed : Bool) (J : List (List ℕ)) (D E : List Deed) → StandsFor L O command handed n J (D ++ E) → n.session ≡ m.session → printed E ≡ [] → polls E ≡ 0 → KeptAt L O command handed m 0 J D J E
+  kept_at n command handed J D E s same silent still =
+      subst (λ K. KeptAt L O command handed m 0 J D K E) (append-nil J) (moment L O command handed m n 0 J [] D E (subst (λ K. StandsFor L O command handed n K (D ++ E)) (sym (append-nil J)) s) same tt silent (omega (arith, still)))
 
   module _ (h : History) (w : World) (only : OnlyNow w) (stands : history.Stands h w) (old : history.is_new h ≡ false) where
-    begun_now : (command : Command) (handed : Bool) (D : List Deed) → StandsFor L O command handed m (records w.seen) D → Begun w w (KeptAt L O command handed m (records w.seen) D) []
+    begun_now : (command : Command) (handed : Bool) (D : List Deed) → StandsFor L O command handed m (records w.seen) D → Begun w w (KeptAt L O command handed m 0 (records w.seen) D) []
     begun_now command handed D s =
-        begun_over h.journal w (KeptAt L O command handed m (records w.seen) D) only stands.journal old
-        (kept_at m command handed (records w.seen) D [] (subst (λ E. StandsFor L O command handed m (records w.seen) E) (sym (append-nil D)) s) refl refl)
+        begun_over h.journal w (KeptAt L O command handed m 0 (records w.seen) D) only stands.journal old
+        (kept_at m command handed (records w.seen) D [] (subst (λ E. StandsFor L O command handed m (records w.seen) E) (sym (append-nil D)) s) refl refl refl)
 
     -- before anything is done
     pub kept_before : KeptThroughout L O m w w
@@ -139,14 +149,14 @@ module _ (moment : StandsIsKept) (L : Language) (O : Outside) (m : Memory) where
     -- a call without a deed
     pub kept_without : (new : World) → CountsNow w → Elapses Same [] w new → KeptThroughout L O m w new
     kept_without new counts time = λ command handed D s.
-        nothing_goes_on w w new (KeptAt L O command handed m (records w.seen) D) [] (begun_now command handed D s) counts time
+        nothing_goes_on w w new (KeptAt L O command handed m 0 (records w.seen) D) [] (begun_now command handed D s) counts time
 
-    -- a deed
-    pub kept_with : (new : World) (n : Memory) (e : Deed) → Elapses Same (e ∷ []) w new → Goes L O m n (e ∷ []) → n.session ≡ m.session → printed (e ∷ []) ≡ [] → KeptThroughout L O m w new
-    kept_with new n e time goes same silent = λ command handed D s.
-        deed_goes_on w w new (KeptAt L O command handed m (records w.seen) D) [] e (begun_now command handed D s) time
-        (kept_at m command handed (records w.seen) D [] (subst (λ E. StandsFor L O command handed m (records w.seen) E) (sym (append-nil D)) s) refl refl)
-        (kept_at n command handed (records w.seen) D (e ∷ []) (goes command handed (records w.seen) D s) same silent)
+    -- a deed that prints nothing and is no poll
+    pub kept_with : (new : World) (n : Memory) (e : Deed) → Elapses Same (e ∷ []) w new → Goes L O m n (e ∷ []) → n.session ≡ m.session → IsSilent e → KeptThroughout L O m w new
+    kept_with new n e time goes same still = λ command handed D s.
+        deed_goes_on w w new (KeptAt L O command handed m 0 (records w.seen) D) [] e (begun_now command handed D s) time
+        (kept_at m command handed (records w.seen) D [] (subst (λ E. StandsFor L O command handed m (records w.seen) E) (sym (append-nil D)) s) refl refl refl)
+        (kept_at n command handed (records w.seen) D (e ∷ []) (goes command handed (records w.seen) D s) same (ap (λ (both : List ℕ × ℕ). both.0) still) (ap (λ (both : List ℕ × ℕ). both.1) still))
 
 -- ## Behind a call
 module _ (L : Language) (O : Outside) (m n : Memory) (w new : World) where
@@ -165,8 +175,8 @@ module _ (L : Language) (O : Outside) (m n : Memory) (w mid : World) (done : Lis
         subst (λ E. StandsFor L O command handed o (records new.seen) E) (append_assoc D done more) (next.stands command handed (D ++ done) (went.stands command handed D s));
   }
 
-  module _ (seen : mid.seen ≡ w.seen) (number : n.session ≡ m.session) (silent : printed done ≡ []) where
-    within : (command : Command) (handed : Bool) (D : List Deed) (J : List (List ℕ)) (E : List Deed) → KeptAt L O command handed n (records mid.seen) (D ++ done) J E → KeptAt L O command handed m (records w.seen) D J (done ++ E)
+  module _ (seen : mid.seen ≡ w.seen) (number : n.session ≡ m.session) (silent : printed done ≡ []) (still : polls done ≡ 0) where
+    within : (command : Command) (handed : Bool) (D : List Deed) (J : List (List ℕ)) (E : List Deed) → KeptAt L O command handed n 0 (records mid.seen) (D ++ done) J E → KeptAt L O command handed m 0 (records w.seen) D J (done ++ E)
     within command handed D J E k = record {
       added = k.added;
       records = k.records ∙ ap (λ l. records l ++ k.added) seen;
@@ -175,15 +185,16 @@ module _ (L : Language) (O : Outside) (m n : Memory) (w mid : World) (done : Lis
       kept = subst (λ F. Kept L O (record { payloads = J; number = m.session; deeds = F; command = command; end = None; handed = handed })) (append_assoc D done E)
           (subst (λ i. Kept L O (record { payloads = J; number = i; deeds = (D ++ done) ++ E; command = command; end = None; handed = handed })) number k.kept);
       silent = silent_both done E silent k.silent;
+      polled = let few = k.polled in omega (arith, few, still, polls-append done E);
     }
 
     pub kept_then : (h : History) (new : World) → KeptThroughout L O m w mid → history.Stands h mid → history.is_new h ≡ false → KeptThroughout L O n mid new → KeptThroughout L O m w new
     kept_then h new first stands old next = λ command handed D s.
-        let so_far : Begun w mid (KeptAt L O command handed m (records w.seen) D) done = record {
+        let so_far : Begun w mid (KeptAt L O command handed m 0 (records w.seen) D) done = record {
           moments = first command handed D s;
           deeds = went.deeds;
           settled = stands.journal.settled;
           begins = has_magic h.journal mid stands.journal old;
         } in
-        part_goes_on w mid new (KeptAt L O command handed m (records w.seen) D) (KeptAt L O command handed n (records mid.seen) (D ++ done)) done so_far
+        part_goes_on w mid new (KeptAt L O command handed m 0 (records w.seen) D) (KeptAt L O command handed n 0 (records mid.seen) (D ++ done)) done so_far
         (next command handed (D ++ done) (went.stands command handed D s)) (within command handed D)

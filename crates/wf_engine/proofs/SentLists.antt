@@ -1,9 +1,10 @@
 -- Lists of what is sent.
-use Rattle.std.specs.Prelude.{◌≡◌, ◌+◌, ℕ, zero, suc, Bool, true, false, if◌then◌else◌, List, [], ◌∷◌, ◌++◌}
+use Rattle.std.specs.Prelude.{◌≡◌, ◌+◌, ◌<◌, ℕ, zero, suc, Bool, true, false, if◌then◌else◌, List, [], ◌∷◌, ◌++◌}
 use Rattle.std.proofs.Common.{refl, ◌∙◌, ap, subst, arith}
 use Rattle.std.proofs.lemmas.List.{append-nil}
 use Rattle.wf_deeds.specs.Clauses.{IsSending, none, start, drop, those}
-use Rattle.wf_deeds.specs.Deeds.{printed}
+use Rattle.wf_deeds.specs.Deeds.{polls}
+use Rattle.wf_host.specs.Printing.{printed}
 use Rattle.wf_host.specs.declared.data.Deed.{Deed}
 
 -- ## Numbers of calls
@@ -31,6 +32,13 @@ those_same test more from (suc n) same =
     ap (λ b. if b then from ∷ those test (suc from) n else those test (suc from) n) (same from)
     ∙ ap (λ l. if more from then from ∷ l else l) (those_same test more (suc from) n same)
 
+-- where none of them is one
+pub those_none : (test : ℕ → Bool) (from n : ℕ) → ((k : ℕ) → k < from + n → test k ≡ false) → those test from n ≡ []
+those_none test from zero off = refl
+those_none test from (suc n) off =
+    ap (λ b. if b then from ∷ those test (suc from) n else those test (suc from) n) (off from (omega arith))
+    ∙ those_none test (suc from) n (λ k lt. off k (omega (arith, lt)))
+
 -- of one call
 pub this_same : (test more : ℕ → Bool) (k : ℕ) → test k ≡ more k → those test k 1 ≡ those more k 1
 this_same test more k same = ap (λ b. if b then k ∷ [] else []) same
@@ -46,6 +54,12 @@ pub silent_sending : {js ks : List ℕ} {ds : List Deed} → IsSending js ks ds 
 silent_sending none = refl
 silent_sending (start k to bytes more) = silent_sending more
 silent_sending (drop j more) = silent_sending more
+
+-- and it is no poll
+pub sending_polls : {js ks : List ℕ} {ds : List Deed} → IsSending js ks ds → polls ds ≡ 0
+sending_polls none = refl
+sending_polls (start k to bytes more) = sending_polls more
+sending_polls (drop j more) = sending_polls more
 
 -- drops, and then what comes behind them
 pub drops_then : {js ls ks : List ℕ} {ds es : List Deed} → IsSending js [] ds → IsSending ls ks es → IsSending (js ++ ls) ks (ds ++ es)

@@ -131,7 +131,7 @@ pub record Going (first now : World) (f g : Faults) (e d : Engine) (Rest : Type 
   pub holds : Told first (Holds d now)
   pub number : (memory d).session ≡ (memory e).session
   pub waits : (memory d).waits ≡ (memory e).waits
-  pub so_far : InTheOutside (λ O. Told first (Far the_language O (memory e) (memory d) first now []))
+  pub so_far : InTheOutside (λ O. Told first (Far the_language O 0 (memory e) (memory d) first now []))
   pub tells : now.tells ≡ first.tells
   pub counts : NoneFell f g
   pub rest : Rest

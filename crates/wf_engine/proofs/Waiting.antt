@@ -1,8 +1,8 @@
 -- Sessions that wait.
-use Rattle.std.specs.Prelude.{◌≡◌, ◌≢◌, ◌+◌, ℕ, true, false, List, [], ◌++◌, Option, Some, None}
+use Rattle.std.specs.Prelude.{◌≡◌, ◌≢◌, ◌≤◌, ◌+◌, ℕ, true, false, List, [], ◌++◌, Option, Some, None}
 use Rattle.std.proofs.Common.{inr, ⊎_elim, refl, arith}
 use Rattle.wf_deeds.proofs.Lists.{polls-append}
-use Rattle.wf_deeds.specs.Clauses.{KeptThroughout, Sessions, Went, ended, paused}
+use Rattle.wf_deeds.specs.Clauses.{KeptWithin, Sessions, Went, ended, paused}
 use Rattle.wf_deeds.specs.Deeds.{polls}
 use Rattle.wf_deeds.specs.Memory.{IsSettled, Memory}
 use Rattle.wf_deeds.specs.Outside.{Outside}
@@ -21,18 +21,18 @@ use Rattle.wf_replay.specs.TheLanguage.{the_language}
 -- it polled as often as it has used up of what it may
 pub record Polled (O : Outside) (m n : Memory) (first now : World) (bound left : ℕ) : Type 0 where
   pub done : List Deed
-  pub far : Far the_language O m n first now done
+  pub far : Far the_language O bound m n first now done
   pub count : polls done + left ≡ bound
 
-pub polled_first : (O : Outside) (m n : Memory) (first now : World) (bound : ℕ) → Far the_language O m n first now [] → Polled O m n first now bound bound
+pub polled_first : (O : Outside) (m n : Memory) (first now : World) (bound : ℕ) → Far the_language O bound m n first now [] → Polled O m n first now bound bound
 polled_first O m n first now bound far = record { done = []; far = far; count = omega arith }
 
--- and then a part more
-pub polled_more : (O : Outside) (e d c : Engine) (first mid new : World) (bound left less : ℕ) (done : List Deed) → Polled O (memory e) (memory d) first mid bound left → (memory d).session ≡ (memory e).session → KeptThroughout the_language O (memory d) mid new
+-- and then a part more, which polls no more often than is left
+pub polled_more : (O : Outside) (e d c : Engine) (first mid new : World) (bound left less part : ℕ) (done : List Deed) → Polled O (memory e) (memory d) first mid bound left → (memory d).session ≡ (memory e).session → part ≤ left → KeptWithin the_language O part (memory d) mid new
     → Went the_language O (memory d) (memory c) mid new done → polls done + less ≡ left → CountsNow new → new.may_leave new.seen → is_closed c ≡ false → Holds c new → Polled O (memory e) (memory c) first new bound less
-polled_more O e d c first mid new bound left less done p number moments went count counts reads opened holds = record {
+polled_more O e d c first mid new bound left less part done p number room moments went count counts reads opened holds = record {
   done = p.done ++ done;
-  far = far_on the_language O (memory e) (memory d) (memory c) first mid new p.done done p.far number moments went c.history counts reads holds.0 (c.ready opened).begun;
+  far = far_on the_language O bound part (memory e) (memory d) (memory c) first mid new p.done done p.far number (omega (arith, room, p.count)) moments went c.history counts reads holds.0 (c.ready opened).begun;
   count = omega (arith, p.count, count, polls-append p.done done);
 }
 
@@ -59,13 +59,13 @@ pub record Waiting (first now : World) (f g : Faults) (e d : Engine) (bound left
 -- ## What a session comes to
 -- with an outcome
 pub has_ended : (O : Outside) (m n : Memory) (first now : World) (bound left : ℕ) → Polled O m n first now bound left → IsSettled n → n.config.outcome ≢ Active → Sessions the_language O false bound m n first now
-has_ended O m n first now bound left p settled over = record { done = p.done; went = far_went the_language O m n first now p.done p.far; ends = ended over (omega (arith, p.count)); settled = settled }
+has_ended O m n first now bound left p settled over = record { done = p.done; went = far_went the_language O bound m n first now p.done p.far; ends = ended over (omega (arith, p.count)); settled = settled }
 
 -- without one
 pub is_suspended : (O : Outside) (m n : Memory) (first now : World) (bound left : ℕ) → Polled O m n first now bound left → left ≡ 0 → IsSettled n → n.config.outcome ≡ Active → Sessions the_language O true bound m n first now
 is_suspended O m n first now bound left p none settled active = record {
   done = p.done;
-  went = far_went the_language O m n first now p.done p.far;
+  went = far_went the_language O bound m n first now p.done p.far;
   ends = paused active (omega (arith, p.count, none)) (⊎_elim (λ still. still) (λ over. absurd (over active)) settled.still);
   settled = settled;
 }

@@ -2,7 +2,8 @@
 --     Finds      the answer that was made whole
 --     SameBut    what stays
 use Rattle.std.specs.Prelude.{◌≡◌, ◌⊎◌, ℕ, true, false, Option, Some, None, option_map}
-use Rattle.wf_deeds.specs.Deeds.{IsAnswered, call_of}
+use Rattle.wf_deeds.specs.Deeds.{IsAnswered}
+use Rattle.wf_host.specs.World.{call_of}
 use Rattle.wf_deeds.specs.Memory.{Memory, awaits}
 use Rattle.wf_engine.specs.Taken.{taken_event}
 use Rattle.wf_engine.specs.declared.taken.Taken.{Taken}

@@ -11,3 +11,4 @@ pub mod Openings
 pub mod Hearing
 pub mod Taken
 pub mod Turn
+pub mod Done

@@ -1,6 +1,6 @@
 -- The statuses that print a text, each with its cause.
 --     Scene     what a command meets
---     Gives     a status whose cause holds, with its text, for the image and the deeds of a moment
+--     MayPrint  a status whose cause holds, with its text, for the image and the deeds of a moment
 use Rattle.std.specs.Prelude.{◌≡◌, ◌≢◌, ◌≤◌, ℕ, suc, Bool, true, false, List, [], ◌++◌, length, take, Option, Some, None, Ok, Err, codes, decimal}
 use Rattle.wf_ast.specs.Tree.{Program}
 use Rattle.wf_deeds.specs.Deeds.{polls}
@@ -165,15 +165,15 @@ module _ (L : Language) (R : Reports) (s : Scene) where
   abbrev pub IsSuspended : List ℕ → List Deed → Type 0
   IsSuspended image D = HasOutcome image Active × HasPolled s D
 
-  pub data Gives (image : List ℕ) (D : List Deed) : Status → List ℕ → Type 0 where
-    bad_line : (n : ℕ) → IsBadLine s n → Gives image D (status.BadLine n) (line_end (codes "bad line at word " ++ decimal n))
-    bad_argument : IsBadArgument s → Gives image D status.BadArgument (line_end (codes "bad argument"))
-    refused : (r : Refusal) → IsRefused s r → Gives image D (status.Refused r) (line_end (refusal_text r))
-    not_a_journal : HasOtherMagic s → Gives image D status.NotAJournal (line_end (codes "not a journal"))
-    already_started : IsStarted s → Gives image D status.AlreadyStarted (line_end (codes "already started"))
-    not_started : IsNotStarted s → Gives image D status.NotStarted (line_end (codes "not started"))
-    not_a_history : (n : ℕ) → IsNoHistory n → Gives image D (status.NotAHistory n) (line_end (codes "not a history at record " ++ decimal n))
-    suspended : IsSuspended image D → Gives image D status.Suspended (line_end (codes "suspended"))
-    ended : (o : Outcome) (st : Status) → HasOutcome image o → status_of o ≡ Some st → Gives image D st (outcome_text o)
-    done : (text : List ℕ) → Reported R s text → Gives image D status.Done text
-    told : (text : List ℕ) → TellsHistory text → Gives image D status.Done text
+  pub data MayPrint (image : List ℕ) (D : List Deed) : Status → List ℕ → Type 0 where
+    bad_line : (n : ℕ) → IsBadLine s n → MayPrint image D (status.BadLine n) (line_end (codes "bad line at word " ++ decimal n))
+    bad_argument : IsBadArgument s → MayPrint image D status.BadArgument (line_end (codes "bad argument"))
+    refused : (r : Refusal) → IsRefused s r → MayPrint image D (status.Refused r) (line_end (refusal_text r))
+    not_a_journal : HasOtherMagic s → MayPrint image D status.NotAJournal (line_end (codes "not a journal"))
+    already_started : IsStarted s → MayPrint image D status.AlreadyStarted (line_end (codes "already started"))
+    not_started : IsNotStarted s → MayPrint image D status.NotStarted (line_end (codes "not started"))
+    not_a_history : (n : ℕ) → IsNoHistory n → MayPrint image D (status.NotAHistory n) (line_end (codes "not a history at record " ++ decimal n))
+    suspended : IsSuspended image D → MayPrint image D status.Suspended (line_end (codes "suspended"))
+    ended : (o : Outcome) (st : Status) → HasOutcome image o → status_of o ≡ Some st → MayPrint image D st (outcome_text o)
+    done : (text : List ℕ) → Reported R s text → MayPrint image D status.Done text
+    told : (text : List ℕ) → TellsHistory text → MayPrint image D status.Done text

@@ -2,7 +2,7 @@
 -- and `faults` are what a host stands for and its counts of faults.
 use Rattle.std.specs.Prelude.{◌≡◌, ◌≢◌, ◌⊎◌, ◌↔◌, ◌≤◌, ◌<◌, ◌+◌, ◌++◌, ℕ, Bool, true, false, [], ◌∷◌, length, take, max, Result, Ok, Err, IfOk, IfErr, OnOk, OnErr, IsErrOf}
 use Rattle.wf_deeds.specs.At.{applied_by, journal, next_session}
-use Rattle.wf_deeds.specs.Clauses.{AddsTurn, KeptThroughout, Opened, SendsOpen, Sessions, Takes}
+use Rattle.wf_deeds.specs.Clauses.{AddsTurn, KeptThroughout, KeptWithin, Opened, SendsOpen, Sessions, Takes}
 use Rattle.wf_deeds.specs.History.{Standing, history}
 use Rattle.wf_deeds.specs.Kept.{Run}
 use Rattle.wf_deeds.specs.Memory.{AllIsSent, IsSettled, StandsFor}
@@ -19,6 +19,7 @@ use Rattle.wf_host.specs.Calls.{AtAnyMoment, DiskFailed, DoesNoDeed, NoCountFall
 use Rattle.wf_host.specs.World.{World, Faults, Told, LeavesOnly, Only, Rose}
 use Rattle.wf_host.specs.declared.data.Deed.TheVariants.{Now}
 use Rattle.wf_host.specs.declared.data.Heard.{Heard}
+use Rattle.wf_journal.specs.Journal.{IsJournal}
 use Rattle.wf_journal.specs.Records.{magic, records}
 use Rattle.wf_machine.specs.Counts.{counts_of}
 use Rattle.wf_machine.specs.Outcome.{IsResult}
@@ -54,9 +55,9 @@ pub record BeginsAnExecution {H : Type 0} (world : H → World) (faults : H → 
   -- NotAJournal comes only where the file has another magic
   pub not_a_journal : Told (world old) (IsErrOf r fault.NotAJournal → (5 ≤ length (world old).seen) × (take 4 (world old).seen ≢ magic))
   -- on Ok it was new or had the magic
-  pub a_journal : Told (world old) (OnOk r ((length (world old).seen ≤ 4) ⊎ (take 4 (world old).seen ≡ magic)))
+  pub a_journal : Told (world old) (OnOk r (IsJournal (world old).seen))
   -- AlreadyStarted comes only where it has a first record
-  pub already_started : Told (world old) (IsErrOf r fault.AlreadyStarted → (records (world old).seen ≢ []) × ((length (world old).seen ≤ 4) ⊎ (take 4 (world old).seen ≡ magic)))
+  pub already_started : Told (world old) (IsErrOf r fault.AlreadyStarted → (records (world old).seen ≢ []) × IsJournal (world old).seen)
   -- which was read behind the opening's sync: a crash leaves just this
   pub settled : Told (world old) (IsErrOf r fault.AlreadyStarted → Only (world new).seen (world new).may_leave)
   -- on Ok it had no record
@@ -95,7 +96,7 @@ pub record OpensAnExecution {H : Type 0} (world : H → World) (faults : H → F
   -- NotAJournal comes only where the file has another magic
   pub not_a_journal : Told (world old) (IsErrOf r fault.NotAJournal → (5 ≤ length (world old).seen) × (take 4 (world old).seen ≢ magic))
   -- NotStarted comes only where it has no record
-  pub not_started : Told (world old) (IsErrOf r fault.NotStarted → (records (world old).seen ≡ []) × ((length (world old).seen ≤ 4) ⊎ (take 4 (world old).seen ≡ magic)))
+  pub not_started : Told (world old) (IsErrOf r fault.NotStarted → (records (world old).seen ≡ []) × IsJournal (world old).seen)
   -- which was read behind the opening's sync: a crash leaves just this
   pub settled : Told (world old) (IsErrOf r fault.NotStarted → Only (world new).seen (world new).may_leave)
   -- NotAHistory comes only where its records are no history, with that number
@@ -159,8 +160,8 @@ pub record RunsASession {H : Type 0} (world : H → World) (faults : H → Fault
   pub suspended : InTheOutside (λ O. Told (world old) (IsErrOf r fault.Suspended → Sessions the_language O true bound (memory before) (memory behind) (world old) (world new)))
   -- the outcome is a value or an error
   pub result : OnOk r (IsResult (memory behind).config.outcome)
-  -- a crash leaves a history that goes on from the records before, under the rules
-  pub any_moment : InTheOutside (λ O. is_closed before ≡ false → Told (world old) (KeptThroughout the_language O (memory before) (world old) (world new)))
+  -- a crash leaves a history that goes on from the records before, under the rules; and however it ends, at no moment it has polled more often
+  pub any_moment : InTheOutside (λ O. is_closed before ≡ false → Told (world old) (KeptWithin the_language O bound (memory before) (world old) (world new)))
   -- with an outcome at entry nothing is touched
   pub finished : Told (world old) ((memory before).config.outcome ≢ Active → new ≡ old)
   -- the session stays

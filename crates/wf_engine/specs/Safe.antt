@@ -5,11 +5,12 @@
 use Rattle.std.specs.Prelude.{◌≡◌, ◌⊎◌, ◌≤◌, ℕ, List, [], ◌∷◌, ◌++◌, length, take, Contains, Option, option_map, Result, Ok, Err, false}
 use Rattle.std.specs.List.{AllByRecursion}
 use Rattle.wf_deeds.specs.Clauses.{IsOfSession}
-use Rattle.wf_deeds.specs.Deeds.{printed, nows, IsSmall}
+use Rattle.wf_deeds.specs.Deeds.{nows, IsSmall}
+use Rattle.wf_host.specs.Printing.{printed}
 use Rattle.wf_deeds.specs.Kept as kept
 use Rattle.wf_deeds.specs.Kept.{Session, Kept}
 use Rattle.wf_deeds.specs.Outside.{Outside}
-use Rattle.wf_engine.specs.Printed.{Scene, Reports, Reads, Gives}
+use Rattle.wf_engine.specs.Printed.{Scene, Reports, Reads, MayPrint}
 use Rattle.wf_engine.specs.Starts.{start_of}
 use Rattle.wf_events.specs.Records.{Started}
 use Rattle.wf_events.specs.Spelling.{record_bytes}
@@ -71,7 +72,7 @@ module _ (L : Language) (O : Outside) (R : Reports) (s : Scene) (end : Option St
 
   -- what was printed is the front of a text that the command has cause to print
   abbrev pub PrintedIsOutcome : List ℕ → List Deed → Type 0
-  PrintedIsOutcome image D = (printed D ≡ []) ⊎ ((st : Status) × (text : List ℕ) × Gives L R s image D st text × IsPrefix (printed D) text)
+  PrintedIsOutcome image D = (printed D ≡ []) ⊎ ((st : Status) × (text : List ℕ) × MayPrint L R s image D st text × IsPrefix (printed D) text)
 
   -- before the opening's sync: nothing is sent, the clock is read at most once, and the image is one that a crash at entry might leave
   pub record IsEarly (entry : List ℕ → Type 0) (image : List ℕ) (D : List Deed) : Type 0 where

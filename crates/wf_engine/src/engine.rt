@@ -1,7 +1,9 @@
 // The engine: an execution over a journal.
 ghost use Rattle.std.specs.Prelude.{◌≡◌, ◌<◌, ◌^◌, false};
 ghost use Rattle.std.specs.Coded.{→_prop};
+ghost use Rattle.wf_engine.specs.Done.{AreDone, AreDone-prop};
 ghost use Rattle.wf_engine.specs.Ready.{IsReady, IsReady-prop};
+ghost use Rattle.wf_machine.specs.Seen.{state_of};
 
 use crate::choose_turn;
 use crate::opening::{empty_history, session_reading};
@@ -44,10 +46,13 @@ pub struct Engine {
     pub(crate) waits: u64,
     /// The calls that it has started.
     pub(crate) connections: Connections,
+    /// The calls up to this number are closed, and none of them has still to be dropped: no wait looks at them again.
+    pub(crate) done: u64,
     /// An answer that waits for its turn.
     pub(crate) taken: Option<Taken>,
     pub(crate) closed: bool,
     ghost ready: { closed ≡ false → IsReady history machine reading connections taken } by { →_prop (IsReady-prop _ _ _ _ _) },
+    ghost through: { closed ≡ false → AreDone (state_of machine).config connections done } by { →_prop (AreDone-prop _ _ _) },
 }
 
 impl Engine {
@@ -101,6 +106,7 @@ impl Engine {
             reading,
             waits: 0,
             connections,
+            done: 0,
             taken: None,
             closed: false,
         })
@@ -139,6 +145,7 @@ impl Engine {
             reading,
             waits: 0,
             connections,
+            done: 0,
             taken: None,
             closed: false,
         })
@@ -204,6 +211,7 @@ impl Engine {
     pub fn machine(&self) -> &Machine
         ensures program { (state_of result.now).program ≡ (memory self.now).program }
         ensures config { (state_of result.now).config ≡ (memory self.now).config }
+        ensures whole { is_closed self.now ≡ false → (state_of result.now).broken ≡ false }
     {
         &self.machine
     }

@@ -1,8 +1,12 @@
 // What is sent.
+ghost use Rattle.wf_engine.specs.Done.{AreClosed};
+ghost use Rattle.wf_machine.specs.Seen.{state_of};
+
 use crate::engine::Engine;
+use wf_calls::numbers_are_those_of_steps;
 use wf_deeds::laws_of_steps;
 use wf_host::Host;
-use wf_machine::Outcome;
+use wf_machine::{Machine, Outcome};
 use wf_replay::EngineFault;
 
 impl Engine {
@@ -61,9 +65,10 @@ impl Engine {
     {
         // laws that the proof uses
         laws_of_steps();
-        for place in 0..self.machine.calls() {
+        for place in self.done..self.machine.calls() {
             self.drop_one(host, place + 1)?;
         }
+        self.done = closed_from(&self.machine, self.done);
         Ok(())
     }
 
@@ -133,7 +138,7 @@ impl Engine {
     {
         // laws that the proof uses
         laws_of_steps();
-        for place in 0..self.machine.calls() {
+        for place in self.done..self.machine.calls() {
             self.start_one(host, place + 1)?;
         }
         Ok(())
@@ -173,5 +178,18 @@ impl Engine {
         self.connections.start(self.alloc, call)?;
         self.closed = false;
         Ok(())
+    }
+}
+
+/// The number up to which all calls are closed, where those up to another one are.
+fn closed_from(machine: &Machine, done: u64) -> u64
+    requires { AreClosed (state_of machine.now).config done }
+    ensures { AreClosed (state_of machine.now).config result }
+{
+    // a law that the proof uses
+    numbers_are_those_of_steps();
+    match machine.next_open(done) {
+        Some(open) => open - 1,
+        None => machine.calls(),
     }
 }

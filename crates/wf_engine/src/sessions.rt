@@ -7,7 +7,7 @@ use wf_replay::EngineFault;
 
 impl Engine {
     ghost use Rattle.std.specs.Prelude.{◌≡◌, ◌+◌, ◌<◌, ◌^◌, true, false, IsErrOf, OnErr, OnOk, ◌∷◌, []};
-    ghost use Rattle.wf_deeds.specs.Clauses.{AddsTurns, KeptThroughout, Waits};
+    ghost use Rattle.wf_deeds.specs.Clauses.{AddsTurns, KeptThroughout, KeptWithin, Waits};
     ghost use Rattle.wf_deeds.specs.Memory.{IsSettled};
     ghost use Rattle.wf_engine.specs.Engine.{Holds, is_closed, memory};
     ghost use Rattle.wf_engine.specs.Promises.{RunsASession};
@@ -88,7 +88,7 @@ impl Engine {
             (OnOk result (Waits the_language O (memory self.old) (memory self.new)
             (H.world host.old) (H.world host.new)))) }
         ensures any_moment { InTheOutside (λ O. Told (H.world host.old)
-            (KeptThroughout the_language O (memory self.old) (H.world host.old)
+            (KeptWithin the_language O 1 (memory self.old) (H.world host.old)
             (H.world host.new))) }
         ensures session { (memory self.new).session ≡ (memory self.old).session }
         ensures one { OnOk result ((memory self.new).waits ≡ (memory self.old).waits + 1) }

@@ -1,6 +1,6 @@
 // What is heard.
 ghost use Rattle.std.specs.Prelude.{◌≡◌};
-ghost use Rattle.wf_deeds.specs.Deeds.{call_of};
+ghost use Rattle.wf_host.specs.World.{call_of};
 
 use crate::engine::Engine;
 use crate::taken::Taken;
@@ -12,7 +12,7 @@ use wf_value::OutOfMemory;
 impl Engine {
     ghost use Rattle.std.specs.Prelude.{◌≡◌, ◌+◌, ◌<◌, ◌^◌, ℕ, None, is_some, true, false, IfOk};
     ghost use Rattle.wf_connections.specs.Calls.{is_started, listens};
-    ghost use Rattle.wf_deeds.specs.Deeds.{visit_of};
+    ghost use Rattle.wf_host.specs.World.{visit_of};
     ghost use Rattle.wf_deeds.specs.Memory.{IsSettled};
     ghost use Rattle.wf_engine.specs.Engine.{is_closed, memory};
     ghost use Rattle.wf_engine.specs.Promises.{TakesWhatIsHeard};

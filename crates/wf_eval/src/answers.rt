@@ -8,11 +8,7 @@ ghost use Rattle.wf_value.specs.Plain.{plain};
 ghost use Rattle.wf_eval.specs.Answers.{Gives, GivesBool, GivesInt, GivesText};
 
 use std::alloc::Global;
-use wf_value::{NumFault, Raise, Tag, Text, Value};
-
-const MAX_SIZE: u64 = 4_194_304;
-
-const MAX_DEPTH: u32 = 100;
+use wf_value::{MAX_DEPTH, MAX_SIZE, NumFault, Raise, Tag, Text, Value};
 
 /// The value, if it keeps within the limits.
 #[inline(always)]

@@ -22,9 +22,7 @@ use wf_lib_text::{
     text_to_lower, text_to_upper, text_url_decode, text_url_encode,
 };
 use wf_lib_time::{time_format, time_parse};
-use wf_value::{Raise, Tag, Value};
-
-const MAX_DEPTH: u32 = 100;
+use wf_value::{MAX_DEPTH, Raise, Tag, Value};
 
 /// What a function answers to its arguments. Another count than it takes is a TypeError.
 pub fn apply<K: Look>(

@@ -3,17 +3,17 @@
 
 mod answers;
 mod calling;
-mod filling;
 mod functions;
 mod look;
 mod machine;
+mod maps;
 mod members;
 mod operators;
 mod short;
 
 pub use answers::{copied, keep, owned};
 pub use calling::apply;
-pub use filling::{fill, map_of};
 pub use functions::shown;
 pub use look::Look;
 pub use machine::eval;
+pub use maps::map_of;

@@ -4,7 +4,7 @@ ghost use Rattle.wf_events.specs.Faults.{GivesWhole, IsFaultOf, IsUnspelled};
 ghost use Rattle.wf_events.specs.Reading.{argument_at, pair_at, route_at, start_at, timed_at, numbered_at, event_at, events_at, turn_at, record_at, whole_at, taken_as, meaning};
 ghost use Rattle.wf_events.specs.Spelling.{Spells};
 ghost use Rattle.wf_events.specs.View.{route_view, start_view, event_view, events_view, turn_view, record_view};
-ghost use Rattle.wf_record_parts.specs.Faults.{Gives};
+ghost use Rattle.wf_record_parts.specs.Faults.{ReadsOff};
 ghost use Rattle.wf_record_parts.specs.Reading.{list_at, reply_at, visitor_at};
 ghost use Rattle.wf_value.specs.Events.{Answer, Arrive};
 
@@ -19,7 +19,7 @@ use wf_value::{Bytes, Pairs, Text};
 
 #[tactic(auto, unfolding(crate::specs::Reading::argument_at))]
 fn argument(reader: &mut Reader<'_>, alloc: Global) -> Result<Bytes, ReadFault>
-    ensures { Gives (λ s. s) result reader.new (argument_at reader.old) }
+    ensures { ReadsOff (λ s. s) result reader.new (argument_at reader.old) }
 {
     let left = reader.left();
     let text = reader.string()?;
@@ -31,7 +31,7 @@ fn argument(reader: &mut Reader<'_>, alloc: Global) -> Result<Bytes, ReadFault>
 
 #[tactic(auto, unfolding(crate::specs::Reading::route_at))]
 fn route(reader: &mut Reader<'_>, alloc: Global) -> Result<(Text, Address), ReadFault>
-    ensures { Gives (λ r. route_view r) result reader.new (route_at reader.old) }
+    ensures { ReadsOff (λ r. route_view r) result reader.new (route_at reader.old) }
 {
     let host = reader.text(alloc)?;
     let name = reader.text(alloc)?;
@@ -41,7 +41,7 @@ fn route(reader: &mut Reader<'_>, alloc: Global) -> Result<(Text, Address), Read
 
 #[tactic(auto, unfolding(wf_record_parts::specs::Reading::list_at))]
 fn routes(reader: &mut Reader<'_>, alloc: Global) -> Result<Routes, ReadFault>
-    ensures { Gives (λ rs. map route_view rs) result reader.new (list_at route_at reader.old) }
+    ensures { ReadsOff (λ rs. map route_view rs) result reader.new (list_at route_at reader.old) }
 {
     let count = reader.u32()?;
     let mut routes = Routes::new(alloc);
@@ -54,7 +54,7 @@ fn routes(reader: &mut Reader<'_>, alloc: Global) -> Result<Routes, ReadFault>
 
 #[tactic(auto, unfolding(crate::specs::Reading::pair_at))]
 fn pair(reader: &mut Reader<'_>, alloc: Global) -> Result<(Text, Text), ReadFault>
-    ensures { Gives (λ p. p) result reader.new (pair_at reader.old) }
+    ensures { ReadsOff (λ p. p) result reader.new (pair_at reader.old) }
 {
     let key = reader.text(alloc)?;
     let value = reader.text(alloc)?;
@@ -63,7 +63,7 @@ fn pair(reader: &mut Reader<'_>, alloc: Global) -> Result<(Text, Text), ReadFaul
 
 #[tactic(auto, unfolding(wf_record_parts::specs::Reading::list_at))]
 fn pairs(reader: &mut Reader<'_>, alloc: Global) -> Result<Pairs, ReadFault>
-    ensures { Gives (λ ps. ps) result reader.new (list_at pair_at reader.old) }
+    ensures { ReadsOff (λ ps. ps) result reader.new (list_at pair_at reader.old) }
 {
     let count = reader.u32()?;
     let mut pairs = Pairs::new(alloc);
@@ -76,7 +76,7 @@ fn pairs(reader: &mut Reader<'_>, alloc: Global) -> Result<Pairs, ReadFault>
 
 #[tactic(auto, unfolding(crate::specs::Reading::start_at))]
 fn start(reader: &mut Reader<'_>, alloc: Global) -> Result<Start, ReadFault>
-    ensures { Gives start_view result reader.new (start_at reader.old) }
+    ensures { ReadsOff start_view result reader.new (start_at reader.old) }
 {
     Ok(Start {
         id: reader.text(alloc)?,
@@ -92,7 +92,7 @@ fn start(reader: &mut Reader<'_>, alloc: Global) -> Result<Start, ReadFault>
 /// A task and a reading.
 #[tactic(auto, unfolding(crate::specs::Reading::timed_at))]
 fn timed(reader: &mut Reader<'_>) -> Result<(u32, u64), ReadFault>
-    ensures { Gives (λ p. p) result reader.new (timed_at reader.old) }
+    ensures { ReadsOff (λ p. p) result reader.new (timed_at reader.old) }
 {
     let task = reader.u32()?;
     let reading = reader.u64()?;
@@ -102,7 +102,7 @@ fn timed(reader: &mut Reader<'_>) -> Result<(u32, u64), ReadFault>
 /// The answer to a call, behind its code.
 #[tactic(auto, unfolding(crate::specs::Reading::numbered_at))]
 fn answer(reader: &mut Reader<'_>, alloc: Global) -> Result<Event, ReadFault>
-    ensures { Gives event_view result reader.new
+    ensures { ReadsOff event_view result reader.new
         (taken_as (λ p. Answer p.0 p.1 p.2) (numbered_at reply_at reader.old)) }
 {
     let call = reader.u64()?;
@@ -116,7 +116,7 @@ fn answer(reader: &mut Reader<'_>, alloc: Global) -> Result<Event, ReadFault>
 /// The arrival of a request, behind its code.
 #[tactic(auto, unfolding(crate::specs::Reading::numbered_at))]
 fn arrival(reader: &mut Reader<'_>, alloc: Global) -> Result<Event, ReadFault>
-    ensures { Gives event_view result reader.new
+    ensures { ReadsOff event_view result reader.new
         (taken_as (λ p. Arrive p.0 p.1 p.2) (numbered_at visitor_at reader.old)) }
 {
     let endpoint = reader.u64()?;
@@ -129,7 +129,7 @@ fn arrival(reader: &mut Reader<'_>, alloc: Global) -> Result<Event, ReadFault>
 
 #[tactic(auto, unfolding(crate::specs::Reading::event_at))]
 fn event(reader: &mut Reader<'_>, alloc: Global) -> Result<Event, ReadFault>
-    ensures { Gives event_view result reader.new (event_at reader.old) }
+    ensures { ReadsOff event_view result reader.new (event_at reader.old) }
 {
     let left = reader.left();
     match reader.byte()? {
@@ -155,7 +155,7 @@ fn event(reader: &mut Reader<'_>, alloc: Global) -> Result<Event, ReadFault>
 
 #[tactic(auto, unfolding(crate::specs::Reading::events_at))]
 fn events(reader: &mut Reader<'_>, alloc: Global) -> Result<Events, ReadFault>
-    ensures { Gives events_view result reader.new (events_at reader.old) }
+    ensures { ReadsOff events_view result reader.new (events_at reader.old) }
 {
     let left = reader.left();
     let count = reader.u32()?;
@@ -171,7 +171,7 @@ fn events(reader: &mut Reader<'_>, alloc: Global) -> Result<Events, ReadFault>
 
 #[tactic(auto, unfolding(crate::specs::Reading::turn_at))]
 fn turn(reader: &mut Reader<'_>, alloc: Global) -> Result<Turn, ReadFault>
-    ensures { Gives turn_view result reader.new (turn_at reader.old) }
+    ensures { ReadsOff turn_view result reader.new (turn_at reader.old) }
 {
     Ok(Turn {
         session: reader.u64()?,
@@ -182,7 +182,7 @@ fn turn(reader: &mut Reader<'_>, alloc: Global) -> Result<Turn, ReadFault>
 
 #[tactic(auto, unfolding(crate::specs::Reading::record_at))]
 fn record(reader: &mut Reader<'_>, alloc: Global) -> Result<Record, ReadFault>
-    ensures { Gives record_view result reader.new (record_at reader.old) }
+    ensures { ReadsOff record_view result reader.new (record_at reader.old) }
 {
     let left = reader.left();
     match reader.byte()? {

@@ -34,12 +34,14 @@ pub(crate) fn leaf(alloc: Global, symbols: &[Symbol]) -> Result<Option<Expr>, St
     }
 }
 
+/// An expression on the heap.
 pub(crate) fn boxed(alloc: Global, e: Expr) -> Result<Box<Expr>, Stop>
     ensures { MatchResult result (λ b. b.value ≡ e) (λ f. f ≡ stop.OutOfMemory) }
 {
     Ok(Box::new(alloc, e)?)
 }
 
+/// A text of the tree, which shares its bytes.
 pub(crate) fn copied(text: &Text) -> Result<Text, Stop>
     ensures { MatchResult result (λ t. t ≡ text.now) (λ f. f ≡ stop.OutOfMemory) }
 {
@@ -77,12 +79,14 @@ pub(crate) fn longer(chain: Option<String>, key: &Text) -> Result<Option<String>
     Ok(Some(name))
 }
 
+/// No arguments.
 pub(crate) fn no_args(alloc: Global) -> Result<Exprs, Stop>
     ensures { MatchResult result (λ es. exprs_view es ≡ []) (λ f. f ≡ stop.OutOfMemory) }
 {
     Ok(Exprs::new(alloc)?)
 }
 
+/// Adds an argument behind the others.
 pub(crate) fn add(args: &mut Exprs, arg: Expr) -> Result<(), Stop>
     ensures { MatchResult result (λ _. exprs_view args.new
         ≡ exprs_view args.old ++ expr_view arg ∷ []) (λ f. f ≡ stop.OutOfMemory) }

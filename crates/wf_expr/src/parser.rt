@@ -18,6 +18,7 @@ use std::alloc::Global;
 use wf_ast::{Expr, Exprs};
 use wf_value::Text;
 
+/// Reads an expression: parts with `or` between them, or one alone. It gives what stands behind it too.
 #[cycle(parse)]
 pub(crate) fn parse_or<'a>(
     alloc: Global,

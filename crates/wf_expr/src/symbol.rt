@@ -17,6 +17,7 @@ pub(crate) fn tail(symbols: &[Symbol]) -> &[Symbol]
     }
 }
 
+/// Whether the first symbol is `or`.
 pub(crate) fn begins_or(symbols: &[Symbol]) -> bool
     ensures { result ≡ machine.is_or (machine.head (syms_of symbols.now)) }
 {
@@ -26,6 +27,7 @@ pub(crate) fn begins_or(symbols: &[Symbol]) -> bool
     }
 }
 
+/// Whether the first symbol is `and`.
 pub(crate) fn begins_and(symbols: &[Symbol]) -> bool
     ensures { result ≡ machine.is_and (machine.head (syms_of symbols.now)) }
 {
@@ -41,6 +43,7 @@ pub(crate) fn begins_and(symbols: &[Symbol]) -> bool
     }
 }
 
+/// Whether the first symbol is `not`.
 pub(crate) fn begins_not(symbols: &[Symbol]) -> bool
     ensures { result ≡ machine.is_not (machine.head (syms_of symbols.now)) }
 {
@@ -56,6 +59,7 @@ pub(crate) fn begins_not(symbols: &[Symbol]) -> bool
     }
 }
 
+/// Whether the first symbol is `-`.
 pub(crate) fn begins_minus(symbols: &[Symbol]) -> bool
     ensures { result ≡ machine.is_minus (machine.head (syms_of symbols.now)) }
 {
@@ -71,6 +75,7 @@ pub(crate) fn begins_minus(symbols: &[Symbol]) -> bool
     }
 }
 
+/// Whether the first symbol is `.`.
 pub(crate) fn begins_point(symbols: &[Symbol]) -> bool
     ensures { result ≡ machine.is_point (machine.head (syms_of symbols.now)) }
 {
@@ -86,6 +91,7 @@ pub(crate) fn begins_point(symbols: &[Symbol]) -> bool
     }
 }
 
+/// Whether the first symbol is `,`.
 pub(crate) fn begins_comma(symbols: &[Symbol]) -> bool
     ensures { result ≡ machine.is_comma (machine.head (syms_of symbols.now)) }
 {
@@ -101,6 +107,7 @@ pub(crate) fn begins_comma(symbols: &[Symbol]) -> bool
     }
 }
 
+/// Whether the first symbol is `(`.
 pub(crate) fn begins_left_paren(symbols: &[Symbol]) -> bool
     ensures { result ≡ machine.is_left_paren (machine.head (syms_of symbols.now)) }
 {
@@ -116,6 +123,7 @@ pub(crate) fn begins_left_paren(symbols: &[Symbol]) -> bool
     }
 }
 
+/// Whether the first symbol is `)`.
 pub(crate) fn begins_right_paren(symbols: &[Symbol]) -> bool
     ensures { result ≡ machine.is_right_paren (machine.head (syms_of symbols.now)) }
 {
@@ -131,6 +139,7 @@ pub(crate) fn begins_right_paren(symbols: &[Symbol]) -> bool
     }
 }
 
+/// Whether the first symbol is `[`.
 pub(crate) fn begins_left_bracket(symbols: &[Symbol]) -> bool
     ensures { result ≡ machine.is_left_bracket (machine.head (syms_of symbols.now)) }
 {
@@ -146,6 +155,7 @@ pub(crate) fn begins_left_bracket(symbols: &[Symbol]) -> bool
     }
 }
 
+/// Whether the first symbol is `]`.
 pub(crate) fn begins_right_bracket(symbols: &[Symbol]) -> bool
     ensures { result ≡ machine.is_right_bracket (machine.head (syms_of symbols.now)) }
 {
@@ -161,6 +171,7 @@ pub(crate) fn begins_right_bracket(symbols: &[Symbol]) -> bool
     }
 }
 
+/// The operator that the first symbol is, where it compares, as `==` or `in`.
 pub(crate) fn relation(symbols: &[Symbol]) -> Option<Op>
     ensures { result ≡ machine.relation_of (machine.head (syms_of symbols.now)) }
 {
@@ -176,6 +187,7 @@ pub(crate) fn relation(symbols: &[Symbol]) -> Option<Op>
     }
 }
 
+/// The operator that the first symbol is, where it is `+` or `-`.
 pub(crate) fn sign(symbols: &[Symbol]) -> Option<Op>
     ensures { result ≡ machine.sign_of (machine.head (syms_of symbols.now)) }
 {
@@ -191,6 +203,7 @@ pub(crate) fn sign(symbols: &[Symbol]) -> Option<Op>
     }
 }
 
+/// The operator that the first symbol is, where it multiplies or divides.
 pub(crate) fn product(symbols: &[Symbol]) -> Option<Op>
     ensures { result ≡ machine.product_of (machine.head (syms_of symbols.now)) }
 {
@@ -206,6 +219,7 @@ pub(crate) fn product(symbols: &[Symbol]) -> Option<Op>
     }
 }
 
+/// The name that the first symbol is.
 pub(crate) fn name(symbols: &[Symbol]) -> Option<&Text>
     ensures { option_map (λ x. x.now) result
         ≡ machine.name_of (machine.head (syms_of symbols.now)) }

@@ -56,6 +56,7 @@ pub(crate) fn digits(text: &str) -> Kind
     }
 }
 
+/// The symbol of a mark, as `==` or `(`.
 pub(crate) fn mark(text: &str) -> Kind
     ensures { sym_of result ≡ symbols.mark text.now }
 {

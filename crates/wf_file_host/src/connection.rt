@@ -1,12 +1,14 @@
 // A connection over which a call is sent and answered.
-ghost use Rattle.std.specs.Prelude.{length};
+ghost use Rattle.std.specs.Prelude.{◌≡◌, length, IfOk};
 ghost use Rattle.wf_file_host.specs.Sockets.{IsPieceWithin};
 
 use mio::net::TcpStream;
 use mio::{Interest, Registry, Token};
+use std::alloc::Global;
 use std::io::{self, Read, Write};
 use std::net::{Net, SocketAddr};
-use wf_value::Bytes;
+use wf_http_in::Reading;
+use wf_value::{Bytes, OutOfMemory};
 
 /// What a read of a connection tells.
 #[derive(Clone, Copy, Debug, PartialEq, Eq)]
@@ -38,6 +40,8 @@ pub(crate) struct Connection {
     is_ready: bool,
     /// No more of the request is taken; what was answered by then is still read.
     is_cut: bool,
+    /// The answer, as far as it was told.
+    answer: Reading,
 }
 
 /// Begins to connect to an address. What becomes of it is reported under the token.
@@ -59,6 +63,7 @@ fn connect<N: Net>(
 impl Connection {
     /// Begins to connect for a call, to the last of these addresses that takes it.
     pub(crate) fn new<N: Net>(
+        alloc: Global,
         net: &N,
         registry: &Registry,
         token: usize,
@@ -76,6 +81,7 @@ impl Connection {
             is_connected: false,
             is_ready: false,
             is_cut: false,
+            answer: Reading::new(alloc),
         };
         connection.connect_next(net, registry);
         connection
@@ -84,6 +90,11 @@ impl Connection {
     /// The number of its call.
     pub(crate) fn call(&self) -> u64 {
         self.call
+    }
+
+    /// The token under which it is reported, which no other connection has.
+    pub(crate) fn token(&self) -> usize {
+        self.token
     }
 
     /// Notes that something was reported under this token.
@@ -183,5 +194,15 @@ impl Connection {
             }
         }
         Step::Nothing
+    }
+
+    /// A piece that was read is told. Gives it with whether it makes the answer whole, broken or too large, so that nothing behind it is
+    /// wanted. Without memory it isn't told.
+    pub(crate) fn tell(&mut self, alloc: Global, piece: &[u8]) -> Result<(Bytes, bool), OutOfMemory>
+        ensures { IfOk result (λ r. r.0 ≡ piece.now) }
+    {
+        let told = Bytes::new(alloc, piece)?;
+        self.answer.feed(piece)?;
+        Ok((told, self.answer.answer().is_some()))
     }
 }

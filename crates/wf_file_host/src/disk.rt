@@ -2,6 +2,7 @@
 ghost use Rattle.std.specs.Prelude.{◌≤◌, ◌+◌, length, IfOk, OnOk};
 ghost use Rattle.wf_host.specs.World.{longest};
 
+use crate::DiskError;
 use crate::journal_file::JournalFile;
 use std::fs::{File, Files};
 use wf_host::{Failed, LONGEST, copy_from, put_in};
@@ -24,11 +25,11 @@ impl Drop for Disk {
 }
 
 impl Disk {
-    /// Whether another process holds the file.
-    pub(crate) fn is_held(&self) -> bool {
+    /// Why a call on the file failed.
+    pub(crate) fn error(&self) -> Option<DiskError> {
         match self {
-            Disk::Journal(file) => file.is_held(),
-            Disk::Memory(_) => false,
+            Disk::Journal(file) => file.error(),
+            Disk::Memory(_) => None,
         }
     }
 

@@ -5,6 +5,8 @@ ghost use Rattle.wf_host.specs.declared.data.What.TheVariants.{Nothing};
 ghost use Rattle.wf_file_host.specs.Untold.{untold};
 ghost use Rattle.wf_file_host.specs.FileHost.{file_host_faults, last_reading};
 
+use crate::DiskError;
+use crate::clock::{self, First};
 use crate::disk::Disk;
 use crate::journal_file::JournalFile;
 use crate::late_sockets::LateSockets;
@@ -13,7 +15,7 @@ use std::fs::{File, Files};
 use std::io;
 use std::io::Print;
 use std::net::Net;
-use std::time::{Clock, SystemTime};
+use std::time::Clock;
 use wf_host::{Address, Failed, Heard, Host, PollError, What};
 use wf_value::OutOfMemory;
 
@@ -24,18 +26,13 @@ pub struct FileHost<R: Files<File = File> + Clock + Print + Drop> {
     rt: R,
     disk: Disk,
     sockets: LateSockets,
+    /// The first reading of the clock.
+    first: Option<First>,
+    /// The greatest reading so far.
     last: u64,
     disk_faults: u64,
     poll_faults: u64,
     print_faults: u64,
-}
-
-/// The system's clock, in milliseconds since 1970; 0 before.
-fn millis<C: Clock>(clock: &C) -> io::Result<u64> {
-    match SystemTime::now(clock)?.duration_since(SystemTime::UNIX_EPOCH) {
-        Ok(past) => Ok(past.as_millis().min(u64::MAX as u128) as u64),
-        Err(_) => Ok(0),
-    }
 }
 
 impl<R: Files<File = File> + Clock + Print + Drop> FileHost<R> {
@@ -47,17 +44,31 @@ impl<R: Files<File = File> + Clock + Print + Drop> FileHost<R> {
     }
 
     /// A host with the journal at this path. It is opened at the first disk call and made at the first write. Where it can't be opened,
-    /// or another process holds it, each disk call fails.
+    /// or another process holds it, each disk call fails. The first sync of a file that was there writes it anew, byte for byte.
     pub fn with_journal(alloc: Global, rt: R, path: &str) -> Result<FileHost<R>, OutOfMemory>
         ensures { IfOk result (λ h. file_host_faults h ≡ no_faults) }
     {
-        let path = String::from_str(alloc, path)?;
-        Ok(FileHost::on(alloc, rt, Disk::Journal(JournalFile::new(path))))
+        FileHost::at(alloc, rt, path, true)
     }
 
-    /// Whether another process holds the journal, so that each disk call fails.
-    pub fn is_held(&self) -> bool {
-        self.disk.is_held()
+    /// The same for a command that only tells of the journal: no sync writes it anew.
+    pub fn telling_of(alloc: Global, rt: R, path: &str) -> Result<FileHost<R>, OutOfMemory>
+        ensures { IfOk result (λ h. file_host_faults h ≡ no_faults) }
+    {
+        FileHost::at(alloc, rt, path, false)
+    }
+
+    fn at(alloc: Global, rt: R, path: &str, grows: bool) -> Result<FileHost<R>, OutOfMemory>
+        ensures { IfOk result (λ h. file_host_faults h ≡ no_faults) }
+    {
+        let path = String::from_str(alloc, path)?;
+        let file = JournalFile::new(path, grows);
+        Ok(FileHost::on(alloc, rt, Disk::Journal(file)))
+    }
+
+    /// Why a disk call failed, where the system told.
+    pub fn disk_error(&self) -> Option<DiskError> {
+        self.disk.error()
     }
 
     fn on(alloc: Global, rt: R, disk: Disk) -> FileHost<R>
@@ -68,6 +79,7 @@ impl<R: Files<File = File> + Clock + Print + Drop> FileHost<R> {
             rt,
             disk,
             sockets: LateSockets::Unopened,
+            first: None,
             last: 0,
             disk_faults: 0,
             poll_faults: 0,
@@ -81,7 +93,7 @@ impl<R: Files<File = File> + Clock + Print + Drop> FileHost<R> {
         ensures kept { last_reading self.new ≡ result }
         ensures faults { file_host_faults self.new ≡ file_host_faults self.old }
     {
-        if let Ok(reading) = millis(&self.rt) {
+        if let Ok(reading) = clock::read(&self.rt, &mut self.first) {
             self.last = self.last.max(reading);
         }
         self.last

@@ -3,10 +3,11 @@ ghost use Rattle.std.specs.Prelude.{◌≡◌, ◌≤◌, length, IfOk, None};
 ghost use Rattle.wf_host.specs.World.{piece_len, visit_of};
 
 use crate::connection::{Connection, Step};
+use crate::names::Names;
 use mio::{Events, Poll, Token};
 use std::alloc::Global;
 use std::io;
-use std::net::{Net, SocketAddr, ToSocketAddrs};
+use std::net::Net;
 use std::time::Duration;
 use wf_host::{Address, PollError, What};
 use wf_value::{Bytes, OutOfMemory};
@@ -20,18 +21,19 @@ const REPORTS: usize = 64;
 /// No wait is longer, in milliseconds, so that a clock that was set forward is seen soon.
 const LONGEST_WAIT: u64 = 10_000;
 
-/// The connections of the calls that were started and of which something may still be heard.
+/// The connections of the calls that were started and of which something may still be heard. One is closed once its answer is whole.
 #[derive(Drop)]
 pub(crate) struct Sockets {
     poll: Poll,
     events: Events,
+    names: Names,
     connections: Vec<Connection>,
     next_token: usize,
     /// The connection that is read next, so that each has its turn.
     turn: usize,
     room: Vec<u8>,
-    /// A piece of a call that was read into the room, and not told for want of memory.
-    kept: Option<(u64, usize)>,
+    /// A piece that was read into the room, and not told for want of memory: the token of its connection, and how long it is.
+    kept: Option<(usize, usize)>,
     ghost within: { length room.items ≤ 65536 },
 }
 
@@ -50,6 +52,7 @@ impl Sockets {
         Ok(Sockets {
             poll,
             events,
+            names: Names::new(alloc),
             connections: Vec::new(alloc),
             next_token: 0,
             turn: 0,
@@ -68,12 +71,12 @@ impl Sockets {
         bytes: &[u8],
     ) -> Result<(), OutOfMemory> {
         let request = Bytes::new(alloc, bytes)?;
-        let addresses = addresses_of(alloc, net, to)?;
+        let addresses = self.names.addresses_of(alloc, net, to)?;
         self.connections.reserve(1)?;
         let token = self.next_token;
         self.next_token = token.wrapping_add(1);
         let registry = self.poll.registry();
-        let connection = Connection::new(net, registry, token, call, addresses, request);
+        let connection = Connection::new(alloc, net, registry, token, call, addresses, request);
         self.connections.push(connection)?;
         Ok(())
     }
@@ -88,8 +91,14 @@ impl Sockets {
         ensures piece { IfOk result (λ w. piece_len w ≤ 65536) }
         ensures calls_alone { IfOk result (λ w. visit_of w ≡ None) }
     {
-        if let Some((call, count)) = self.kept {
-            return self.tell_piece(alloc, call, count);
+        if let Some((token, count)) = self.kept.take() {
+            let all = &self.connections;
+            if let Some(at) = all
+                .iter()
+                .position(|connection| connection.token() == token)
+            {
+                return self.tell_piece(alloc, at, count);
+            }
         }
         if self.look(millis).is_err() {
             return Err(PollError::Failed);
@@ -128,10 +137,7 @@ impl Sockets {
             let call = connection.call();
             match connection.read(&mut self.room) {
                 Step::Nothing => self.turn += 1,
-                Step::Piece(count) => {
-                    self.turn += 1;
-                    return self.tell_piece(alloc, call, count);
-                }
+                Step::Piece(count) => return self.tell_piece(alloc, self.turn, count),
                 Step::End => {
                     self.connections.remove(self.turn);
                     return Ok(What::End(call));
@@ -145,19 +151,28 @@ impl Sockets {
         Ok(What::Nothing)
     }
 
-    /// Tells a piece that stands in the room. Without memory for it, it is told by the next poll.
-    fn tell_piece(&mut self, alloc: Global, call: u64, count: usize) -> Result<What, PollError>
+    /// Tells a piece of a connection that stands in the room, and closes the connection where nothing behind the piece is wanted. Without
+    /// memory the piece is told by the next poll.
+    fn tell_piece(&mut self, alloc: Global, at: usize, count: usize) -> Result<What, PollError>
         ensures piece { IfOk result (λ w. piece_len w ≤ 65536) }
         ensures calls_alone { IfOk result (λ w. visit_of w ≡ None) }
     {
+        let Some(connection) = self.connections.get_mut(at) else {
+            return Ok(What::Nothing);
+        };
         let piece = &self.room[..count.min(self.room.len())];
-        match Bytes::new(alloc, piece) {
-            Ok(bytes) => {
-                self.kept = None;
+        let call = connection.call();
+        match connection.tell(alloc, piece) {
+            Ok((bytes, true)) => {
+                self.connections.remove(at);
+                Ok(What::Bytes(call, bytes))
+            }
+            Ok((bytes, false)) => {
+                self.turn = at + 1;
                 Ok(What::Bytes(call, bytes))
             }
             Err(OutOfMemory) => {
-                self.kept = Some((call, count));
+                self.kept = Some((connection.token(), count));
                 Err(PollError::OutOfMemory)
             }
         }
@@ -167,45 +182,5 @@ impl Sockets {
     pub(crate) fn drop_call(&mut self, call: u64) {
         self.connections
             .retain(|connection| connection.call() != call);
-        if let Some((kept, _)) = self.kept
-            && kept == call
-        {
-            self.kept = None;
-        }
-    }
-}
-
-/// The addresses of a host, the first of them last. A host that isn't found has none.
-fn addresses_of<N: Net>(
-    alloc: Global,
-    net: &N,
-    to: &Address,
-) -> Result<Vec<SocketAddr>, OutOfMemory> {
-    match found_addresses(alloc, net, (bare(to.name.as_str()), to.port)) {
-        Ok(addresses) => Ok(addresses),
-        Err(e) if e.kind() == io::ErrorKind::OutOfMemory => Err(OutOfMemory),
-        Err(_) => Ok(Vec::new(alloc)),
-    }
-}
-
-/// The addresses that are found, the first of them last.
-fn found_addresses<N: Net, A: ToSocketAddrs>(
-    alloc: Global,
-    net: &N,
-    host: A,
-) -> io::Result<Vec<SocketAddr>> {
-    let mut addresses = Vec::new(alloc);
-    for address in host.to_socket_addrs(net)? {
-        addresses.push(address)?;
-    }
-    addresses.reverse();
-    Ok(addresses)
-}
-
-/// A host without the brackets that stand around an address of the sixth version.
-fn bare(host: &str) -> &str {
-    match host.strip_prefix('[') {
-        Some(rest) => rest.strip_suffix(']').unwrap_or(host),
-        None => host,
     }
 }

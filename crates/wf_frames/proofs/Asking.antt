@@ -31,7 +31,7 @@ use Rattle.wf_value.specs.Events.{Method}
 use Rattle.wf_frames.proofs.Advancing.{from_next}
 use Rattle.wf_frames.proofs.Evaluated.{failed, gave}
 use Rattle.wf_frames.proofs.Parts.{list_is, part_is}
-use Rattle.wf_frames.specs.Steps.{AreFit, AsksWith, CallWants, CallsNone, CarriesCall, Fails, IsCallOn, IsDone, IsGiven, IsNoCall, IsOf, IsOrBreaks, IsReady, Issues, LeadsSo, PerformsCall, WantsSame, asks, asks_by, asks_to, asks_with, issues_body}
+use Rattle.wf_frames.specs.Steps.{AreFit, AsksWith, CallWants, CallsNone, CarriesCall, Fails, IsCallOn, IsDone, IsGiven, IsNoCall, IsOf, IsOrBreaks, IsReady, Issues, LeadsSo, PerformsCall, WantsSame, asks, asks_by, asks_to, asks_with, come, come_to, issues_body}
 use Rattle.wf_frames.specs.declared.step.Leads.{Leads}
 use Rattle.wf_frames.specs.declared.step.Leads.TheVariants as leads
 use Rattle.wf_frames.specs.declared.step.Step.{Step}
@@ -107,6 +107,9 @@ plain_asks_not ns cs x next k p other h = by (part_body (part_by ns x next (kind
 pub asks_so : (ns : List Spot) (s : Scene) (k : List Item) (l : Local) (by : Leads) (st : Step) → LeadsSo by st → asks ns st s k l ≡ asks_to ns by s k l
 asks_so ns s k l by st so = ap (λ y. asks ns y s k l) so.is ∙ ap (λ y. asks_to ns y s k l) so.holds
 
+pub comes_so : (ns : List Spot) (s : Scene) (k : List Item) (l : Local) (by : Leads) (st : Step) → LeadsSo by st → come ns st s k l ≡ come_to ns by s k l
+comes_so ns s k l by st so = ap (λ y. come ns y s k l) so.is ∙ ap (λ y. come_to ns y s k l) so.holds
+
 pub done_so : (by : Leads) (st : Step) → LeadsSo by st → IsGiven by → IsDone st
 done_so by st so h = subst IsDone (sym so.is) (subst IsGiven (sym so.holds) h)
 
@@ -147,6 +150,7 @@ on_of : (n : ℕ) (x : Leads) → CallsNone x → IsCallOn n x
 on_of n (leads.Raises v) h = tt
 on_of n (leads.Returns v) h = tt
 on_of n (leads.Calls m args) h = absurd h
+on_of n (leads.Forks m) h = tt
 
 pub no_call_of : (n : ℕ) (st : Step) → IsNoCall st → IsOf n st
 no_call_of n step.Goes h = tt
@@ -157,6 +161,7 @@ no_call_of n (step.Leads x) h = on_of n x.value h
 on_wants : (ns : List Spot) (old : List Frame) (n : ℕ) (x : Leads) → IsCallOn n x → ((p : Program) → next_kind p (control ns old) ≡ body_kind p (part_body (part_at ns n))) → CallWants ns old x
 on_wants ns old n (leads.Raises v) is h = tt
 on_wants ns old n (leads.Returns v) is h = tt
+on_wants ns old n (leads.Forks m) is h = tt
 on_wants ns old n (leads.Calls m args) is h = λ p. h p ∙ ap (λ (i : ℕ). body_kind p (part_body (part_at ns i))) (sym is)
 
 pub of_same : (ns : List Spot) (old : List Frame) (n : ℕ) (st : Step) → IsOf n st → ((p : Program) → next_kind p (control ns old) ≡ body_kind p (part_body (part_at ns n))) → WantsSame ns old st

@@ -24,7 +24,7 @@ use Rattle.wf_value.specs.declared.Tag.TheVariants.{TypeError}
 use Rattle.wf_value.specs.declared.Value.{Value}
 use Rattle.wf_value.specs.Pairs.{Text}
 use Rattle.wf_frames.proofs.Parts.{as_part, part_is}
-use Rattle.wf_frames.specs.Built.{Tells}
+use Rattle.wf_frames.specs.Built.{IsTableOf}
 use Rattle.wf_model.specs.NodeKinds.{kind_by}
 use Rattle.wf_model.specs.Shapes.{Compiled, shape_by}
 use Rattle.wf_model.specs.Table.{Resolves, part_by}
@@ -132,11 +132,11 @@ busy_body ns cs x next (kind.Arm t) h e = absurd (cc h)
 busy_body ns cs x next (kind.Entry y) h e = absurd (cc h)
 busy_body ns cs x next (kind.Branch b) h e = absurd (cc h)
 
-none_is : {A : Type 0} (o : Option A) → is_none o ≡ true → o ≡ None
+pub none_is : {A : Type 0} (o : Option A) → is_none o ≡ true → o ≡ None
 none_is None h = refl
 none_is (Some a) h = absurd (cc h)
 
-pub idle_is : (ns : List Spot) (nodes : List Node) (n : ℕ) (x : Node) → Tells ns nodes → slice_get nodes n ≡ Some x → is_idle x ≡ true → (part_body (part_at ns n) ≡ Body.Nothing) × (part_next (part_at ns n) ≡ None)
+pub idle_is : (ns : List Spot) (nodes : List Node) (n : ℕ) (x : Node) → IsTableOf ns nodes → slice_get nodes n ≡ Some x → is_idle x ≡ true → (part_body (part_at ns n) ≡ Body.Nothing) × (part_next (part_at ns n) ≡ None)
 idle_is ns nodes n x r e h =
     let two = and_parts (is_idle_kind x.kind) (is_none x.next) h in
     (ap part_body (part_is ns nodes n x r.resolves e) ∙ idle_body ns x.codes.items.items x.name x.next x.kind two.0, r.nexts n x e ∙ none_is x.next two.1)
@@ -150,7 +150,7 @@ idle_or : (b : Bool) → (b ≡ true) ⊎ (b ≡ false)
 idle_or true = inl refl
 idle_or false = inr refl
 
-pub busy_is : (ns : List Spot) (nodes : List Node) (n : ℕ) (x : Node) → Tells ns nodes → slice_get nodes n ≡ Some x → is_idle x ≡ false → part_body (part_at ns n) ≡ Body.Nothing → part_next (part_at ns n) ≡ None → ⊥
+pub busy_is : (ns : List Spot) (nodes : List Node) (n : ℕ) (x : Node) → IsTableOf ns nodes → slice_get nodes n ≡ Some x → is_idle x ≡ false → part_body (part_at ns n) ≡ Body.Nothing → part_next (part_at ns n) ≡ None → ⊥
 busy_is ns nodes n x r e h b m =
     let there : part_body (part_by ns x.name x.next (kind_by x.codes.items.items x.kind)) ≡ Body.Nothing = ap part_body (sym (part_is ns nodes n x r.resolves e)) ∙ b in
     let gone : is_none x.next ≡ true = ap is_none (sym (r.nexts n x e) ∙ m) in

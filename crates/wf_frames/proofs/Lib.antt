@@ -27,3 +27,6 @@ pub mod Performed
 pub mod Shallow
 pub mod Assigns
 pub mod Looks
+pub mod Unseen
+mod Counting
+mod Beginning

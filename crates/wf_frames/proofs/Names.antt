@@ -5,10 +5,11 @@ use Rattle.std.proofs.lemmas.Bool.{and_parts, eq-eqb, ne_eqb}
 use Rattle.wf_frames.proofs.Stores.{OwnStay, KeysStay, Stays, keys_same, keys_stand_same, own_same, own_stand_same}
 use Rattle.wf_frames.proofs.Owning.{innermost_own}
 use Rattle.wf_frames.proofs.Sums.{SumIs, sum_more, total_so}
+use Rattle.wf_frames.proofs.Unseen.{besides_more}
 use Rattle.wf_frames.specs.Frames.{own, owned}
 use Rattle.wf_frames.specs.Innermost.{innermost}
 use Rattle.wf_frames.specs.Held.{Held, standing}
-use Rattle.wf_frames.specs.Owned.{AreAlone, Around, IsInside, IsLinked, KeysStand, Linked, OnlyInside, OwnStand, first_key, held_of, next_own, outer_for}
+use Rattle.wf_frames.specs.Owned.{AreAlone, Around, IsInside, IsLinked, KeysStand, Linked, OnlyInside, OwnStand, besides, first_key, held_of, next_own, outer_for}
 use Rattle.wf_frames.specs.Turns.{Enters, bound_all, names_of}
 use Rattle.wf_frames.specs.declared.frames.Frame.{Frame}
 use Rattle.wf_model.specs.Config.{limits}
@@ -258,6 +259,7 @@ module _ (a : Around) (p : ℕ) (fs : List Frame) (x : Scopes) (o d : ℕ) (b : 
       layers = subst (λ ls. Linked a.keys (own (fresh (layers_of x)) b ∷ owned p fs) ls) (sym fitted.2.is) (subst (λ (n : ℕ). Linked a.keys (own n b ∷ owned p fs) (layers_of x ++ fitted.2.layer ∷ [])) fitted.2.number links.linked);
       limit = limit ∙ h.limit;
       order = λ m. subst (λ ls. IsInOrder (vars_at m ls)) (sym fitted.2.is) (order_last (layers_of x) fitted.2.layer fitted.2.order m (h.order m));
+      unseen = ap (besides (fresh (layers_of x) ∷ numbers (owned p fs) a.keys)) fitted.2.is ∙ besides_more (fresh (layers_of x)) (numbers (owned p fs) a.keys) (layers_of x) fitted.2.layer fitted.2.number (fresh_none (layers_of x)) ∙ h.unseen;
       sum = subst (λ ls. SumIs a (own (fresh (layers_of x)) b ∷ owned p fs) ls) (sym fitted.2.is)
           (sum_more (pairs_size (pairs_of (vars_at (fresh (layers_of x)) (layers_of x ++ fitted.2.layer ∷ [])))) (layers_total (own_layers (owned p fs) (layers_of x))) (outers_total (far_layers a.keys (layers_of x))) a.others (total_of (layers_of x))
           (layers_total (own_layers (owned p fs) (layers_of x ++ fitted.2.layer ∷ []))) (outers_total (far_layers a.keys (layers_of x ++ fitted.2.layer ∷ []))) (total_of (layers_of x ++ fitted.2.layer ∷ []))

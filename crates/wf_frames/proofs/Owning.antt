@@ -4,10 +4,11 @@ use Rattle.std.specs.Prelude.{drop, reverse}
 use Rattle.wf_lemmas.proofs.Lists.{reverse_push}
 use Rattle.wf_frames.proofs.Stores.{Closes, closes, order_closed}
 use Rattle.wf_frames.proofs.Sums.{SumIs, sum_closed}
+use Rattle.wf_frames.proofs.Unseen.{besides_closed}
 use Rattle.wf_frames.specs.Frames.{is_back, mark_of, moved_on, own, owned}
 use Rattle.wf_frames.specs.Innermost.{innermost}
 use Rattle.wf_frames.specs.Held.{Held}
-use Rattle.wf_frames.specs.Owned.{Around, IsLinked, Linked, held_of}
+use Rattle.wf_frames.specs.Owned.{Around, IsLinked, Linked, besides, held_of}
 use Rattle.wf_frames.specs.Turns.{Leaves, dropped}
 use Rattle.wf_frames.specs.declared.frames.Frame.{Frame}
 use Rattle.wf_frames.specs.declared.frames.Frame.TheVariants as frame
@@ -16,7 +17,7 @@ use Rattle.wf_scope.proofs.Seen.{vars_found}
 use Rattle.wf_scope.proofs.Totals.{total_closed}
 use Rattle.wf_scope.specs.Layers.{closed, rises, total_of, vars_at}
 use Rattle.wf_scope.specs.Store.{layers_of}
-use Rattle.wf_frames.specs.Tasks.{Own, far_layers, own_layers}
+use Rattle.wf_frames.specs.Tasks.{Own, far_layers, numbers, own_layers}
 use Rattle.wf_scope.specs.declared.scopes.Scopes.{Scopes}
 use Rattle.wf_value.specs.Data.{pairs_of, pairs_size}
 use Rattle.wf_value.specs.Maps.{IsInOrder}
@@ -117,6 +118,8 @@ module _ (a : Around) (p q first : ℕ) (f : Frame) (n : ℕ) (old new : List Fr
     layers = subst (λ (k : ℕ). Linked a.keys (owned k new) (layers_of y)) (sym same) (subst (λ ls. Linked a.keys (owned first new) ls) (sym e) mark_closes.linked);
     limit = l ∙ h.limit;
     order = λ m. subst (λ ls. IsInOrder (vars_at m ls)) (sym e) (order_closed n (layers_of x) r h.order m);
+    unseen = ap (besides (numbers (owned q new) a.keys)) e ∙ ap (λ (k : ℕ). besides (numbers (owned k new) a.keys) (closed n (layers_of x))) same
+        ∙ besides_closed n (numbers (owned first new) a.keys) (layers_of x) r ∙ ap (λ os. besides (numbers os a.keys) (layers_of x)) (sym opens) ∙ h.unseen;
     sum = subst (λ (k : ℕ). SumIs a (owned k new) (layers_of y)) (sym same) (subst (λ ls. SumIs a (owned first new) ls) (sym e) mark_sum);
   }
 

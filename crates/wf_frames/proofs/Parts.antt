@@ -1,14 +1,14 @@
 -- Nodes by their numbers, and the parts that they are.
 use Rattle.std.proofs.Common.{◌≡◌, ℕ, ◌<◌, Bool, true, false, List, [], ◌∷◌, length, get_or, Some, None, refl, sym, ap, subst, ◌∙◌, arith}
 use Rattle.std.specs.List.{list_all}
-use Rattle.std.specs.Prelude.{not, zero, suc, is_some, option_map, slice_get, Option}
+use Rattle.std.specs.Prelude.{not, zero, suc, is_none, is_some, option_map, slice_get, Option}
 use Rattle.std.proofs.lemmas.Bool.{and_parts}
 use Rattle.std.proofs.lemmas.Option.{slice_get_read, slice_get_within}
 use Rattle.wf_ast.specs.Tree.{Body, try}
 use Rattle.wf_ast.specs.View.{policy_option_view}
-use Rattle.wf_frames.specs.Fits.{IsCall, IsLoop, IsTry, entries_at, has_next, kind_entries, list_at, outside_at, view_at, view_entries, view_outside}
+use Rattle.wf_frames.specs.Fits.{IsCall, IsLoop, IsParallel, IsTry, entries_at, has_next, kind_entries, list_at, outside_at, view_at, view_entries, view_outside}
 use Rattle.wf_frames.specs.Frames.{body_entries}
-use Rattle.wf_frames.specs.Built.{is_node_built, is_table_built, kind_built}
+use Rattle.wf_frames.specs.Built.{is_node_built, is_table_built, kind_built, work_built}
 use Rattle.wf_model.specs.NodeKinds as view
 use Rattle.wf_model.specs.NodeKinds.{Kind, Listed, handler_view, kind_by, node_view}
 use Rattle.wf_model.specs.Spots.{Spot, entries_by, owners_at, part_at, part_body, part_list, steps_by}
@@ -90,8 +90,12 @@ built_in all (y ∷ ys) (suc n) x b h = built_in all ys n x (and_parts (is_node_
 pub node_built : (nodes : List Node) (n : ℕ) (x : Node) → is_table_built nodes ≡ true → slice_get nodes n ≡ Some x → is_node_built nodes x ≡ true
 node_built nodes n x b h = built_in nodes nodes n x b h
 
-pub never_parallel : (nodes : List Node) (n : ℕ) (x : Node) (p : ParallelNode) → is_table_built nodes ≡ true → slice_get nodes n ≡ Some x → x.kind ≡ kind.Parallel p → ⊥
-never_parallel nodes n x p b h e = let t : false ≡ true = sym (ap (kind_built nodes) e) ∙ node_built nodes n x b h in cc t
+-- a parallel step has no limit of its own, and each list that runs in parallel has a step
+pub parallel_built : (nodes : List Node) (n : ℕ) (x : Node) (p : ParallelNode) → is_table_built nodes ≡ true → slice_get nodes n ≡ Some x → x.kind ≡ kind.Parallel p → (is_none p.limit ≡ true) × (work_built nodes p.work ≡ true)
+parallel_built nodes n x p b h e = and_parts (is_none p.limit) (work_built nodes p.work) (sym (ap (kind_built nodes) e) ∙ node_built nodes n x b h)
+
+pub parallel_within : (nodes : List Node) (n : ℕ) → (p : ParallelNode) × IsParallel nodes n p → n < length nodes
+parallel_within nodes n h = slice_get_within nodes n h.1.node h.1.at
 
 -- the body of a `try` says nothing of what is next
 pub try_built : (nodes : List Node) (n : ℕ) (x : Node) (t : TryNode) → is_table_built nodes ≡ true → slice_get nodes n ≡ Some x → x.kind ≡ kind.Try t → has_next (view_at nodes t.body) ≡ false

@@ -23,7 +23,7 @@ use Rattle.wf_model.specs.Spots.{Spot, BodyAt, part_at, part_body, part_next, pa
 use Rattle.wf_frames.specs.Fits.{has_next, view_at}
 use Rattle.wf_model.specs.declared.node.Node.{Node}
 use Rattle.wf_frames.proofs.Parts.{view_is}
-use Rattle.wf_frames.specs.Built.{Tells}
+use Rattle.wf_frames.specs.Built.{IsTableOf}
 use Rattle.wf_frames.specs.Steps.{CallsWith, Performs, CarriesOut, ReturnsValue, RaisesValue, arm_in}
 use Rattle.wf_frames.specs.declared.frames.Frame.{Frame}
 use Rattle.wf_frames.specs.declared.frames.Frame.TheVariants as frame
@@ -166,7 +166,7 @@ pub block_entered : (ns : List Spot) (n : ℕ) (x : Text) (ss : Steps) (next : O
 block_entered ns n x ss next is = ap (λ p. Do (part_list p) (from 0 (part_list p))) is ∙ sym (ap (λ p. entered (part_body p)) is)
 
 -- it says nothing of what is next
-pub no_next : (ns : List Spot) (nodes : List Node) (n : ℕ) (x : Node) → Tells ns nodes → slice_get nodes n ≡ Some x → has_next (view_at nodes n) ≡ false → part_next (part_at ns n) ≡ None
+pub no_next : (ns : List Spot) (nodes : List Node) (n : ℕ) (x : Node) → IsTableOf ns nodes → slice_get nodes n ≡ Some x → has_next (view_at nodes n) ≡ false → part_next (part_at ns n) ≡ None
 no_next ns nodes n x t at h = t.nexts n x at ∙ by x.next (sym (ap has_next (view_is nodes n x at)) ∙ h)
   where
     by : (o : Option Text) → is_some o ≡ false → o ≡ None

@@ -99,15 +99,15 @@ is_inside n o ls = by (find n ls) refl
     by None e h = absurd (cc h)
     by (Some l) e h = let same : l.outer ≡ o = cc h in (l, e, same)
 
-own_lie : (last : Option ℕ) (os : List Own) (ls : List Layer) → OwnStand last os ls → OwnLie last os ls
+pub own_lie : (last : Option ℕ) (os : List Own) (ls : List Layer) → OwnStand last os ls → OwnLie last os ls
 own_lie last [] ls h = tt
 own_lie last (o ∷ os) ls h = (lies_in o.number (outer_for o.by_call (next_own last os)) ls h.0, own_lie last os ls h.1)
 
-own_stand : (last : Option ℕ) (os : List Own) (ls : List Layer) → OwnLie last os ls → OwnStand last os ls
+pub own_stand : (last : Option ℕ) (os : List Own) (ls : List Layer) → OwnLie last os ls → OwnStand last os ls
 own_stand last [] ls h = tt
 own_stand last (o ∷ os) ls h = (is_inside o.number (outer_for o.by_call (next_own last os)) ls h.0, own_stand last os ls h.1)
 
-keys_lie : (ks : List Far) (ls : List Layer) → KeysStand ks ls → KeysLie ks ls
+pub keys_lie : (ks : List Far) (ls : List Layer) → KeysStand ks ls → KeysLie ks ls
 keys_lie [] ls h = tt
 keys_lie (k ∷ ks) ls h = (lies_in k.number (first_key ks) ls h.0, keys_lie ks ls h.1)
 
@@ -125,6 +125,7 @@ standing a nodes fs x h = record {
   alone = h.linked.layers.alone;
   limit = h.linked.limit;
   order = h.linked.order;
+  unseen = h.linked.unseen;
   sum = h.linked.sum;
 }
 
@@ -140,6 +141,7 @@ stands a nodes fs x h = record {
     };
     limit = h.limit;
     order = h.order;
+    unseen = h.unseen;
     sum = h.sum;
   };
 }

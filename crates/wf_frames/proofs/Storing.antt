@@ -5,10 +5,11 @@ use Rattle.wf_frames.proofs.Owning.{innermost_own}
 use Rattle.wf_frames.proofs.Seeing.{sight_is}
 use Rattle.wf_frames.proofs.Stores.{inside_live}
 use Rattle.wf_frames.proofs.Sums.{SumIs, found_among, put_head, put_tail, sum_put, target_among, total_so}
+use Rattle.wf_frames.proofs.Unseen.{among_has, besides_put}
 use Rattle.wf_frames.specs.Frames.{owned}
 use Rattle.wf_frames.specs.Innermost.{innermost}
 use Rattle.wf_frames.specs.Held.{standing}
-use Rattle.wf_frames.specs.Owned.{AreAlone, Around, IsInside, IsLinked, KeysStand, Linked, OnlyInside, OwnStand, first_key, held_of, next_own, outer_for}
+use Rattle.wf_frames.specs.Owned.{AreAlone, Around, IsInside, IsLinked, KeysStand, Linked, OnlyInside, OwnStand, besides, first_key, held_of, next_own, outer_for}
 use Rattle.wf_frames.specs.Turns.{Writes}
 use Rattle.wf_frames.specs.declared.frames.Frame.{Frame}
 use Rattle.wf_model.specs.Config.{limits}
@@ -22,7 +23,7 @@ use Rattle.wf_scope.specs.Changes.{Answers, assigned, bound, bound_to, changed, 
 use Rattle.wf_scope.specs.Faults.{faulted, raised}
 use Rattle.wf_scope.specs.Layers.{Layer, all_stand, find, put_at, total_of, vars_at, vars_in, with_variable}
 use Rattle.wf_scope.specs.Store.{layers_of}
-use Rattle.wf_frames.specs.Tasks.{Far, Own, SameAnswer}
+use Rattle.wf_frames.specs.Tasks.{Far, Own, SameAnswer, numbers}
 use Rattle.wf_scope.specs.declared.fault.AssignFault.{AssignFault}
 use Rattle.wf_scope.specs.declared.fault.AssignFault.TheVariants as fault
 use Rattle.wf_scope.specs.declared.scopes.Scopes.{Scopes}
@@ -122,6 +123,15 @@ sum_assigned a o os x name u all h =
     let d = found_among (first_key a.keys) (o ∷ os) a.keys ls m h.layers.stand h.layers.keys among in
     sum_put a (o ∷ os) ls m name u d.0 d.1 (subst (λ ps. IsInOrder ps) (vars_found m ls d.0 d.1) (h.order m)) h.layers.apart among h.sum
 
+-- and so the others stay
+unseen_assigned : (a : Around) (o : Own) (os : List Own) (x : Scopes) (name : Text) (u : Data) → all_stand (layers_of x) (layers_of x) ≡ true → IsLinked a (o ∷ os) x
+    → besides (numbers (o ∷ os) a.keys) (put_at (target name o.number (layers_of x)) name u (layers_of x)) ≡ a.rest
+unseen_assigned a o os x name u all h =
+    let ls = layers_of x in
+    let m = target name o.number ls in
+    let among = target_among name o os a.keys ls (sight_is ls all a.keys o os h.layers.stand h.layers.keys) in
+    besides_put m name u (numbers (o ∷ os) a.keys) ls (among_has m (numbers (o ∷ os) a.keys) among) ∙ h.unseen
+
 pub assigned_linked : (a : Around) (first : ℕ) (fs : List Frame) (x y : Scopes) (limit n : ℕ) (name : Text) (path : List Data) (v : Data) → all_stand (layers_of x) (layers_of x) ≡ true → IsLinked a (owned first fs) x → n ≡ innermost first fs
     → assigned limit n name path v (layers_of x) ≡ Ok (layers_of y) → y.limit ≡ x.limit → IsLinked a (owned first fs) y
 assigned_linked a first fs x y limit n name path v all h is e l =
@@ -131,6 +141,9 @@ assigned_linked a first fs x y limit n name path v all h is e l =
       layers = subst (λ ls. Linked a.keys (owned first fs) ls) (sym p.1) (linked_put (target name n (layers_of x)) name p.0 a.keys (owned first fs) (layers_of x) h.layers);
       limit = l ∙ h.limit;
       order = λ m. subst (λ ls. IsInOrder (vars_at m ls)) (sym p.1) (order_put (target name n (layers_of x)) name p.0 m (layers_of x) (h.order m));
+      unseen = ap (besides (numbers (owned first fs) a.keys)) p.1 ∙ ap (λ os. besides (numbers os a.keys) (put_at (target name n (layers_of x)) name p.0 (layers_of x))) i.is
+          ∙ ap (λ (k : ℕ). besides (numbers (i.top ∷ i.rest) a.keys) (put_at (target name k (layers_of x)) name p.0 (layers_of x))) (is ∙ sym i.number)
+          ∙ unseen_assigned a i.top i.rest x name p.0 all (subst (λ os. IsLinked a os x) i.is h);
       sum = subst (λ ls. SumIs a (owned first fs) ls) (sym p.1) (subst (λ os. SumIs a os (put_at (target name n (layers_of x)) name p.0 (layers_of x))) (sym i.is)
           (subst (λ (k : ℕ). SumIs a (i.top ∷ i.rest) (put_at (target name k (layers_of x)) name p.0 (layers_of x))) (i.number ∙ sym is)
           (sum_assigned a i.top i.rest x name p.0 all (subst (λ os. IsLinked a os x) i.is h))));
@@ -141,6 +154,7 @@ same_linked a os x y h e l = record {
   layers = subst (λ ls. Linked a.keys os ls) (sym e) h.layers;
   limit = l ∙ h.limit;
   order = λ m. subst (λ ls. IsInOrder (vars_at m ls)) (sym e) (h.order m);
+  unseen = ap (besides (numbers os a.keys)) e ∙ h.unseen;
   sum = subst (λ ls. SumIs a os ls) (sym e) h.sum;
 }
 

@@ -1,8 +1,8 @@
 -- Tables whose steps are built.
---     is_table_built     none is parallel
---     Tells              such a table tells of a program's parts
+--     is_table_built     no parallel step has a limit of its own, and each list that runs in parallel has a step
+--     IsTableOf          such a table tells of a program's parts
 --     AreTargets         what its calls name: workflows, functions, calls of HTTP, sleeps and the log; and the workflows of its predicates
-use Rattle.std.specs.Prelude.{◌≡◌, ℕ, Bool, true, false, not, List, map, option_map, slice_get, is_some, Some, None, Option}
+use Rattle.std.specs.Prelude.{◌≡◌, ℕ, Bool, true, false, ◌&&◌, not, is_none, List, [], ◌∷◌, map, option_map, slice_get, is_some, Some, None, Option}
 use Rattle.std.specs.List.{list_all}
 use Rattle.wf_ast.specs.Flows.{flow}
 use Rattle.wf_ast.specs.Func.{Listing, Special, SpecialListing, SysLog, SysSleep, SysSleepUntil, func_named, special_named}
@@ -22,6 +22,8 @@ use Rattle.wf_model.specs.declared.node.Node.{Node}
 use Rattle.wf_model.specs.declared.node.NodeKind.{NodeKind}
 use Rattle.wf_model.specs.declared.node.NodeKind.TheVariants as kind
 use Rattle.wf_model.specs.declared.node.TryNode.{TryNode}
+use Rattle.wf_model.specs.declared.node.WorkNode.{WorkNode}
+use Rattle.wf_model.specs.declared.node.WorkNode.TheVariants as work
 use Rattle.wf_frames.specs.declared.target.Nap.{Nap}
 use Rattle.wf_frames.specs.declared.target.Nap.TheVariants as nap
 use Rattle.wf_frames.specs.declared.target.Target.{Target}
@@ -29,10 +31,31 @@ use Rattle.wf_frames.specs.declared.target.Target.TheVariants as target
 use Rattle.wf_value.specs.Pairs.{Text}
 
 -- ## Nodes
+abbrev pub has_any : List ℕ → Bool
+has_any [] = false
+has_any (n ∷ ns) = true
+
+-- the node of a number is a branch with a step
+abbrev pub is_begun : NodeKind → Bool
+is_begun (kind.Branch b) = has_any b.steps.items
+is_begun k = false
+
+abbrev pub is_begun_node : Option Node → Bool
+is_begun_node None = false
+is_begun_node (Some x) = is_begun x.kind
+
+abbrev pub has_steps : List Node → ℕ → Bool
+has_steps nodes n = is_begun_node (slice_get nodes n)
+
+-- each list that runs in parallel has one
+abbrev pub work_built : List Node → WorkNode → Bool
+work_built nodes (work.Branches v) = list_all (has_steps nodes) v.items
+work_built nodes (work.Loop l) = has_any l.block.steps.items
+
 -- the body of a `try` says nothing of what is next
 abbrev pub kind_built : List Node → NodeKind → Bool
 kind_built nodes (kind.Try t) = not (has_next (view_at nodes t.body))
-kind_built nodes (kind.Parallel p) = false
+kind_built nodes (kind.Parallel p) = is_none p.limit && work_built nodes p.work
 kind_built nodes k = true
 
 abbrev pub is_node_built : List Node → Node → Bool
@@ -41,7 +64,7 @@ is_node_built nodes x = kind_built nodes x.kind
 abbrev pub is_table_built : List Node → Bool
 is_table_built nodes = list_all (is_node_built nodes) nodes
 
-pub record Tells (ns : List Spot) (nodes : List Node) : Type 0 where
+pub record IsTableOf (ns : List Spot) (nodes : List Node) : Type 0 where
   pub resolves : Resolves ns nodes
   pub nexts : (i : ℕ) (x : Node) → slice_get nodes i ≡ Some x → part_next (part_at ns i) ≡ x.next
   pub built : is_table_built nodes ≡ true

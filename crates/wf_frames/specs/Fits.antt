@@ -12,6 +12,7 @@ use Rattle.wf_model.specs.Table.{outside, view_list}
 use Rattle.wf_model.specs.declared.node.CallNode.{CallNode}
 use Rattle.wf_model.specs.declared.node.LoopNode.{LoopNode}
 use Rattle.wf_model.specs.declared.node.Node.{Node}
+use Rattle.wf_model.specs.declared.node.ParallelNode.{ParallelNode}
 use Rattle.wf_model.specs.declared.node.TryNode.{TryNode}
 use Rattle.wf_model.specs.declared.node.NodeKind.TheVariants as variant
 use Rattle.wf_value.specs.Data.{depth}
@@ -71,6 +72,12 @@ pub record IsCall (nodes : List Node) (n : ℕ) (f : CallNode) : Type 0 where
   pub node : Node
   pub at : slice_get nodes n ≡ Some node
   pub is : node.kind ≡ variant.Call f
+
+-- this parallel step
+pub record IsParallel (nodes : List Node) (n : ℕ) (p : ParallelNode) : Type 0 where
+  pub node : Node
+  pub at : slice_get nodes n ≡ Some node
+  pub is : node.kind ≡ variant.Parallel p
 
 -- a call that a step makes is its node's
 abbrev pub IsCallOf : List Node → Option ℕ → Type 0

@@ -17,3 +17,4 @@ pub mod Kinds
 pub mod Steps
 pub mod Tasks
 pub mod Assigned
+pub mod Forks

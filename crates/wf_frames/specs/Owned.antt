@@ -3,7 +3,7 @@
 --     held_of         the layers, by what the store holds
 --     Linked          how they stand in each other, and that nothing else stands inside the task's own
 --     local_of        the task by itself
-use Rattle.std.specs.Prelude.{◌≡◌, ℕ, ◌+◌, Bool, true, false, List, [], ◌∷◌, Some, None, Option}
+use Rattle.std.specs.Prelude.{◌≡◌, ℕ, ◌+◌, ◌||◌, Bool, true, false, List, [], ◌∷◌, if◌then◌else◌, nat_eq, Some, None, Option}
 use Rattle.wf_ast.specs.Tree.{Flow}
 use Rattle.wf_frames.specs.Frames.{control, inner, owned}
 use Rattle.wf_frames.specs.Held.{Held, standing}
@@ -67,14 +67,26 @@ pub record Linked (ks : List Far) (os : List Own) (ls : List Layer) : Type 0 whe
   pub apart : AreApart (numbers os ks)
   pub alone : AreAlone None os ls
 
+-- ## Layers of others
+-- the number is among these
+abbrev pub has_number : ℕ → List ℕ → Bool
+has_number n [] = false
+has_number n (m ∷ ms) = nat_eq n m || has_number n ms
+
+-- the layers of a store that have none of these numbers
+abbrev pub besides : List ℕ → List Layer → List Layer
+besides ns [] = []
+besides ns (l ∷ ls) = if has_number l.number ns then besides ns ls else l ∷ besides ns ls
+
 -- ## Of a task
--- what stands around a task: the workflows of its program and their parts, the layers that it sees outside, the limit on variables, and
--- what those come to that it doesn't see
+-- what stands around a task: the workflows of its program and their parts, the layers that it sees outside, the limit on variables, the
+-- layers that it doesn't see, which are those of other tasks, and what these come to
 pub record Around : Type 0 where
   pub flows : List Flow
   pub spots : List Spot
   pub keys : List Far
   pub limit : ℕ
+  pub rest : List Layer
   pub others : ℕ
 
 abbrev pub own_of : Frames → List Own
@@ -83,12 +95,13 @@ own_of fs = owned fs.first (inner fs)
 abbrev pub held_by : Around → Frames → Scopes → Held
 held_by a fs x = held_of a.keys (own_of fs) (layers_of x)
 
--- its layers stand in the store, where the limit is this one, each layer has its variables in order, and those that it doesn't see come to
--- what is left
+-- its layers stand in the store, where the limit is this one, each layer has its variables in order, and those that it doesn't see are
+-- these, and come to what is left
 pub record IsLinked (a : Around) (os : List Own) (x : Scopes) : Type 0 where
   pub layers : Linked a.keys os (layers_of x)
   pub limit : x.limit ≡ a.limit
   pub order : (n : ℕ) → IsInOrder (vars_at n (layers_of x))
+  pub unseen : besides (numbers os a.keys) (layers_of x) ≡ a.rest
   pub sum : layers_total (own_layers os (layers_of x)) + outers_total (far_layers a.keys (layers_of x)) + a.others ≡ total_of (layers_of x)
 
 abbrev pub control_of : Around → Frames → List Item

@@ -1,10 +1,11 @@
 -- What a task sees when it evaluates.
 --     names_in      the variables of some layers, innermost first
 --     Sees          the facts of a scene are these
-use Rattle.std.specs.Prelude.{◌≡◌, ℕ, List, [], ◌∷◌, ◌++◌}
+use Rattle.std.specs.Prelude.{◌≡◌, ℕ, not, nat_le, List, [], ◌∷◌, ◌++◌}
 use Rattle.wf_eval.specs.Sight.{Sight}
 use Rattle.wf_frames.specs.declared.facts.Facts.{Facts}
 use Rattle.wf_frames.specs.declared.sighted.Seen.{Seen}
+use Rattle.wf_model.specs.Config.{limits}
 use Rattle.wf_model.specs.Local.{Scene}
 use Rattle.wf_scope.specs.Layers.{Layer, chain}
 use Rattle.wf_scope.specs.Store.{layers_of}
@@ -30,3 +31,5 @@ pub record Sees (s : Scene) (f : Facts) : Type 0 where
   pub base : s.facts.base ≡ f.base
   pub now : s.now ≡ f.now
   pub last : s.last ≡ f.last
+  -- whether the task may stand in a parallel step more
+  pub deeper : f.deeper ≡ not (nat_le (limits s.facts.rules).nesting s.nesting)

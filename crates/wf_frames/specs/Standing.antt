@@ -2,12 +2,12 @@
 --     Standing          the frames fit the table, and the layers stand in the store
 --     Standing-prop     it has at most one proof
 use Rattle.std.specs.Prelude.{◌≡◌, ℕ, ◌+◌, ◌<◌, ◌≤◌, Bool, true, false, List, [], ◌∷◌, length, slice_get, is_some, Some, None, Option, option_map, unwrap_or}
-use Rattle.std.specs.Coded.{Coded-set, coded_bool, coded_list, coded_option, coded_ℕ, le_prop, Unit-prop, ×_prop, Π_prop, →_prop}
+use Rattle.std.specs.Coded.{Coded-set, codes, coded_bool, coded_list, coded_option, coded_ℕ, le_prop, Unit-prop, ×_prop, Π_prop, →_prop}
 use Rattle.std.specs.List.Sorted.{IsStrictlySortedBy-prop}
 use Rattle.std.specs.Map.{keys_of}
 use Rattle.wf_frames.specs.Fits.{Nests, entries_at, has_next, list_at, view_at}
 use Rattle.wf_frames.specs.Frames.{inner}
-use Rattle.wf_frames.specs.Owned.{AreAlone, Around, OnlyInside, first_key, next_own, outer_for, own_of}
+use Rattle.wf_frames.specs.Owned.{AreAlone, Around, OnlyInside, besides, first_key, next_own, outer_for, own_of}
 use Rattle.wf_frames.specs.declared.frames.Frame.{Frame}
 use Rattle.wf_frames.specs.declared.frames.Frame.TheVariants as frame
 use Rattle.wf_frames.specs.declared.frames.Frames.{Frames}
@@ -21,6 +21,7 @@ use Rattle.wf_scope.specs.Layers.{Layer, find, total_of, vars_at}
 use Rattle.wf_scope.specs.Store.{layers_of}
 use Rattle.wf_frames.specs.Tasks.{AreApart, AreOthers, Far, Own, far_layers, numbers, own_layers}
 use Rattle.wf_scope.specs.declared.scopes.Scopes.{Scopes}
+use Rattle.wf_value.specs.Code.{coded_data}
 use Rattle.wf_value.specs.Data.{depth}
 use Rattle.wf_value.specs.Maps.{IsInOrder, key_cmp}
 use Rattle.wf_value.specs.Plain.{plain}
@@ -98,6 +99,7 @@ pub record Standing (a : Around) (nodes : List Node) (fs : Frames) (x : Scopes) 
   pub alone : AreAlone None (own_of fs) (layers_of x)
   pub limit : x.limit ≡ a.limit
   pub order : (n : ℕ) → IsInOrder (vars_at n (layers_of x))
+  pub unseen : besides (numbers (own_of fs) a.keys) (layers_of x) ≡ a.rest
   pub sum : layers_total (own_layers (own_of fs) (layers_of x)) + outers_total (far_layers a.keys (layers_of x)) + a.others ≡ total_of (layers_of x)
 
 -- ## At most one proof
@@ -127,14 +129,14 @@ Nests-prop ns nodes (frame.Mark number) fs = Unit-prop
 Nests-prop ns nodes (frame.Back call number) fs = Unit-prop
 Nests-prop ns nodes (frame.Judge judging) fs = Coded-set (coded_list coded_ℕ) _ _
 
-AllStandAt-prop : (ns : List Spot) (nodes : List Node) (fs : List Frame) → IsProp (AllStandAt ns nodes fs)
+pub AllStandAt-prop : (ns : List Spot) (nodes : List Node) (fs : List Frame) → IsProp (AllStandAt ns nodes fs)
 AllStandAt-prop ns nodes [] = Unit-prop
 AllStandAt-prop ns nodes (f ∷ fs) = ×_prop (×_prop (StandsAt-prop nodes f) (Nests-prop ns nodes f fs)) (AllStandAt-prop ns nodes fs)
 
 LiesIn-prop : (n : ℕ) (outer : Option ℕ) (ls : List Layer) → IsProp (LiesIn n outer ls)
 LiesIn-prop n outer ls = Coded-set (coded_option (coded_option coded_ℕ)) _ _
 
-OwnLie-prop : (last : Option ℕ) (os : List Own) (ls : List Layer) → IsProp (OwnLie last os ls)
+pub OwnLie-prop : (last : Option ℕ) (os : List Own) (ls : List Layer) → IsProp (OwnLie last os ls)
 OwnLie-prop last [] ls = Unit-prop
 OwnLie-prop last (o ∷ os) ls = ×_prop (LiesIn-prop o.number (outer_for o.by_call (next_own last os)) ls) (OwnLie-prop last os ls)
 
@@ -146,7 +148,7 @@ AreOthers-prop : (n : ℕ) (ns : List ℕ) → IsProp (AreOthers n ns)
 AreOthers-prop n [] = Unit-prop
 AreOthers-prop n (m ∷ ns) = ×_prop (Coded-set coded_bool _ _) (AreOthers-prop n ns)
 
-AreApart-prop : (ns : List ℕ) → IsProp (AreApart ns)
+pub AreApart-prop : (ns : List ℕ) → IsProp (AreApart ns)
 AreApart-prop [] = Unit-prop
 AreApart-prop (n ∷ ns) = ×_prop (AreOthers-prop n ns) (AreApart-prop ns)
 
@@ -158,7 +160,11 @@ AreAlone-prop : (i : Option ℕ) (os : List Own) (ls : List Layer) → IsProp (A
 AreAlone-prop i [] ls = Unit-prop
 AreAlone-prop i (o ∷ os) ls = ×_prop (OnlyInside-prop i o.number ls) (AreAlone-prop (Some o.number) os ls)
 
-order_prop : (ls : List Layer) → IsProp ((n : ℕ) → IsInOrder (vars_at n ls))
+-- layers are told apart
+Layer-set : (ls ms : List Layer) → IsProp (ls ≡ ms)
+Layer-set ls ms = Coded-set (coded_list (hlevel (codes, coded_data))) ls ms
+
+pub order_prop : (ls : List Layer) → IsProp ((n : ℕ) → IsInOrder (vars_at n ls))
 order_prop ls = Π_prop (λ n. IsStrictlySortedBy-prop key_cmp (keys_of (vars_at n ls)))
 
 pub Standing-prop : (a : Around) (nodes : List Node) (fs : Frames) (x : Scopes) → IsProp (Standing a nodes fs x)
@@ -170,5 +176,6 @@ Standing-prop a nodes fs x g h = λ i. record {
   alone = AreAlone-prop None (own_of fs) (layers_of x) g.alone h.alone i;
   limit = Coded-set coded_ℕ x.limit a.limit g.limit h.limit i;
   order = order_prop (layers_of x) g.order h.order i;
+  unseen = Layer-set (besides (numbers (own_of fs) a.keys) (layers_of x)) a.rest g.unseen h.unseen i;
   sum = Coded-set coded_ℕ (layers_total (own_layers (own_of fs) (layers_of x)) + outers_total (far_layers a.keys (layers_of x)) + a.others) (total_of (layers_of x)) g.sum h.sum i;
 }

@@ -12,7 +12,7 @@ use Rattle.wf_ast.specs.Flows.{flow}
 use Rattle.wf_ast.specs.Func.{special_named}
 use Rattle.wf_ast.specs.Tree.{Body, CallBody, Program, Template}
 use Rattle.wf_eval.specs.Answers.{Answers}
-use Rattle.wf_frames.specs.Fits.{IsCall, entries_at, has_next, list_at, reach, view_at}
+use Rattle.wf_frames.specs.Fits.{IsCall, IsParallel, entries_at, has_next, list_at, reach, view_at}
 use Rattle.wf_frames.specs.Frames.{control}
 use Rattle.wf_frames.specs.declared.frames.Frame.{Frame}
 use Rattle.wf_frames.specs.declared.frames.Frame.TheVariants as frame
@@ -22,7 +22,7 @@ use Rattle.wf_model.specs.Kinds.{ByCall, body_kind, next_kind}
 use Rattle.wf_model.specs.Layers.{view}
 use Rattle.wf_model.specs.Leave.{raises, returns, jumps}
 use Rattle.wf_model.specs.Local.{Local, Scene, Moved, Breaks, Not, goes}
-use Rattle.wf_model.specs.Move.{assigns, issues, moves, performs, steps_on, then_item}
+use Rattle.wf_model.specs.Move.{assigns, forks, issues, moves, performs, steps_on, then_item}
 use Rattle.wf_frames.specs.declared.step.Leads.{Leads}
 use Rattle.wf_frames.specs.declared.step.Leads.TheVariants as leads
 use Rattle.wf_frames.specs.declared.step.Step.{Step}
@@ -31,6 +31,7 @@ use Rattle.wf_model.specs.NodeKinds.{Listed}
 use Rattle.wf_model.specs.Spots.{Spot, owners_at, part_at, part_body, part_condition, part_entry, part_next}
 use Rattle.wf_model.specs.declared.node.CallNode.{CallNode}
 use Rattle.wf_model.specs.declared.node.Node.{Node}
+use Rattle.wf_model.specs.declared.node.ParallelNode.{ParallelNode}
 use Rattle.wf_model.specs.declared.node.NodeKind.{NodeKind}
 use Rattle.wf_model.specs.declared.node.NodeKind.TheVariants as kind
 use Rattle.wf_value.specs.Events.{Method}
@@ -57,11 +58,17 @@ abbrev pub calls_by : Scene → Body → Pairs → List Item → Local → Moved
 calls_by s (Body.Call f) args k l = calls_named s f.result (flow s.program.flows f.name) f.name args k l
 calls_by s body args k l = goes k l
 
+-- a parallel step is entered
+abbrev pub forks_by : Scene → Body → List Item → Local → Moved
+forks_by s (Body.Parallel body) k l = forks s body k l
+forks_by s body k l = goes k l
+
 -- what has a value at hand leads on so, at this control
 abbrev pub come_to : List Spot → Leads → Scene → List Item → Local → Moved
 come_to ns (leads.Raises v) s k l = raises s k l (plain v)
 come_to ns (leads.Returns v) s k l = returns s (plain v) k l
 come_to ns (leads.Calls n m) s k l = calls_by s (part_body (part_at ns n)) (pairs_of m) k l
+come_to ns (leads.Forks n) s k l = forks_by s (part_body (part_at ns n)) k l
 
 -- what is left of a step leads on so, at this control
 abbrev pub come : List Spot → Step → Scene → List Item → Local → Moved
@@ -241,6 +248,7 @@ abbrev pub IsGiven : Leads → Type 0
 IsGiven (leads.Raises v) = depth (plain v) ≤ 100
 IsGiven (leads.Returns v) = depth (plain v) ≤ 100
 IsGiven (leads.Calls n m) = ⊥
+IsGiven (leads.Forks n) = ⊥
 
 abbrev pub IsDone : Step → Type 0
 IsDone step.Goes = Unit {0}
@@ -258,6 +266,7 @@ abbrev pub AreFit : List Node → Leads → Type 0
 AreFit nodes (leads.Calls n m) = ((f : CallNode) × IsCall nodes n f) × (pairs_depth (pairs_of m) ≤ 100)
 AreFit nodes (leads.Raises v) = depth (plain v) ≤ 100
 AreFit nodes (leads.Returns v) = depth (plain v) ≤ 100
+AreFit nodes (leads.Forks n) = (p : ParallelNode) × IsParallel nodes n p
 
 abbrev pub IsReady : List Spot → List Node → List Frame → Step → Type 0
 IsReady ns nodes fs (step.Jumps n) = IsJump ns nodes n fs

@@ -5,7 +5,7 @@ ghost use Rattle.wf_frames.specs.Fits.{Fits};
 ghost use Rattle.wf_frames.specs.Foreseen.{Foresees};
 ghost use Rattle.wf_frames.specs.Frames.{inner};
 ghost use Rattle.wf_frames.specs.Owned.{own_of};
-ghost use Rattle.wf_frames.specs.Built.{Tells};
+ghost use Rattle.wf_frames.specs.Built.{IsTableOf};
 ghost use Rattle.wf_frames.specs.Steps.{HasStepOnTop, IsReady, Issues, Moves, WantsSame};
 ghost use Rattle.wf_model.specs.Spots.{Spot};
 
@@ -26,7 +26,7 @@ pub fn step_of<K: Look>(
     now: u64,
 ) -> Result<Step, OutOfMemory>
     ghost ns: { List Spot }
-    requires tells { Tells ns nodes.now }
+    requires tells { IsTableOf ns nodes.now }
     requires step { HasStepOnTop nodes.now (inner frames.old) }
     requires next { Foresees nodes.now frames.old }
     requires fits { Fits ns nodes.now (inner frames.old) }

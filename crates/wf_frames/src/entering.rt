@@ -93,7 +93,11 @@ fn bind_all(scopes: &mut Scopes, layer: Chain, bindings: Bindings) -> Result<(),
 }
 
 /// The layer ends again where the variables would pass their limit. No value nests too deep here.
-fn refuse(scopes: &mut Scopes, layer: Chain, fault: AssignFault) -> Result<(), OutOfMemory>
+pub(crate) fn refuse(
+    scopes: &mut Scopes,
+    layer: Chain,
+    fault: AssignFault,
+) -> Result<(), OutOfMemory>
     requires live { IsLive layer.number (layers_of scopes.old) }
     requires innermost { IsInnermost layer.number (layers_of scopes.old) }
     ensures fault { OnOk result (fault ≡ faults.TooLarge) }
@@ -111,7 +115,7 @@ fn refuse(scopes: &mut Scopes, layer: Chain, fault: AssignFault) -> Result<(), O
 
 /// The names of a loop are bound in a layer.
 #[inline(always)]
-fn bind_names(
+pub(crate) fn bind_names(
     scopes: &mut Scopes,
     layer: Chain,
     name: &Name,

@@ -20,7 +20,7 @@ use wf_value::{List, Map, Raise, Text, Value};
 /// their order, members of maps in the order of the keys.
 #[cycle(fill)]
 #[inline(always)]
-pub(crate) fn fill_shape<K: Look>(
+pub fn fill_shape<K: Look>(
     alloc: Global,
     shape: &Shape,
     codes: &[Postfix],
@@ -138,7 +138,8 @@ pub(crate) fn fill_args<K: Look>(
     now: u64,
 ) -> Result<Map, Raise>
     ensures { Answers (λ m. pairs_of m) result
-        (meaning.fill_fields (fields (fields_by codes.now named.now)) (seen (K.sight look.now) now)) }
+        (meaning.fill_fields (fields (fields_by codes.now named.now))
+        (seen (K.sight look.now) now)) }
 {
     map_of(alloc, fill_named(alloc, named.items(), codes, look, now)?)
 }

@@ -238,6 +238,13 @@ impl Frames {
         self.items.last()
     }
 
+    /// The layer around them all.
+    pub fn first(&self) -> Chain
+        ensures { result.number ≡ self.now.first }
+    {
+        Chain { number: self.first }
+    }
+
     /// How many calls of workflows they stand in.
     #[tactic(auto, using(crate::proofs::Reversed::calls_reversed))]
     pub fn calls(&self) -> usize

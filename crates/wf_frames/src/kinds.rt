@@ -1,7 +1,7 @@
 // Which event a move wants.
 ghost use Rattle.std.specs.Prelude.{◌≡◌, List, Some, option_map, slice_get};
 ghost use Rattle.wf_ast.specs.Tree.{Program};
-ghost use Rattle.wf_frames.specs.Built.{Tells};
+ghost use Rattle.wf_frames.specs.Built.{IsTableOf};
 ghost use Rattle.wf_frames.specs.Fits.{Fits};
 ghost use Rattle.wf_frames.specs.Foreseen.{next_by};
 ghost use Rattle.wf_frames.specs.Frames.{control};
@@ -56,7 +56,7 @@ fn entry_at(wants: &[Wants], n: u32) -> Kind
 #[inline(always)]
 pub fn next_kind(wants: &[Wants], next: Next) -> Kind
     ensures { (p : Program) (ns : List Spot) (nodes : List Node) (fs : List Frame)
-        → Tells ns nodes → Fits ns nodes fs → next ≡ next_by nodes fs
+        → IsTableOf ns nodes → Fits ns nodes fs → next ≡ next_by nodes fs
         → AreWants p ns nodes wants.now → kind_view result ≡ next_kind p (control ns fs) }
 {
     match next {

@@ -1,15 +1,18 @@
 // Nodes by their numbers.
+ghost use Rattle.std.specs.List.{list_all};
 ghost use Rattle.std.specs.Prelude.{◌≡◌, Some, is_some, slice_get, take, true};
-ghost use Rattle.wf_frames.specs.Fits.{IsLoop, IsTry, entries_at, has_next, list_at, view_at};
-ghost use Rattle.wf_frames.specs.Built.{is_node_built, is_table_built};
+ghost use Rattle.wf_frames.specs.Fits.{IsLoop, IsParallel, IsTry, entries_at, has_next, list_at, view_at};
+ghost use Rattle.wf_frames.specs.Built.{has_any, has_steps, is_begun, is_node_built, is_table_built, work_built};
 ghost use Rattle.wf_model.specs.NodeKinds.{block_view};
 ghost use Rattle.wf_model.specs.declared.node.LoopNode as loop_node;
+ghost use Rattle.wf_model.specs.declared.node.ParallelNode as parallel_node;
 ghost use Rattle.wf_model.specs.declared.node.TryNode as try_node;
 
 use wf_ast::Postfix;
-use wf_model::{Block, LoopNode, Node, NodeKind, TryNode};
+use wf_model::{Block, LoopNode, Node, NodeKind, ParallelNode, TryNode, WorkNode};
 
-/// Whether the steps of this table are built: none is parallel. What stands under a `try` says nothing of what is next.
+/// Whether the steps of this table are built: no parallel one has a limit of its own, and each list that runs in parallel has a step. What
+/// stands under a `try` says nothing of what is next.
 pub fn are_built(nodes: &[Node]) -> bool
     ensures { result ≡ is_table_built nodes.now }
 {
@@ -25,11 +28,62 @@ fn is_built(nodes: &[Node], node: &Node) -> bool
     ensures { result ≡ is_node_built nodes.now node.now }
 {
     match &node.kind {
-        NodeKind::Parallel(_) => false,
+        NodeKind::Parallel(body) => body.limit.is_none() && is_work_built(nodes, &body.work),
         NodeKind::Try(tried) => !has_next(nodes, tried.body),
         NodeKind::Flow(_) | NodeKind::Branch(_) | NodeKind::Block(_) | NodeKind::For(_) => true,
         NodeKind::Nothing | NodeKind::Assign(_) | NodeKind::Switch(_) | NodeKind::Raise(_) => true,
         NodeKind::Return(_) | NodeKind::Arm(_) | NodeKind::Entry(_) | NodeKind::Call(_) => true,
+    }
+}
+
+/// Whether each list that runs in parallel has a step.
+fn is_work_built(nodes: &[Node], work: &WorkNode) -> bool
+    ensures { result ≡ work_built nodes.now work.now }
+{
+    match work {
+        WorkNode::Branches(branches) => have_steps(nodes, branches.as_slice()),
+        WorkNode::Loop(repeated) => has_any(repeated.block.steps.as_slice()),
+    }
+}
+
+/// Whether the nodes of these numbers are branches with steps.
+fn have_steps(nodes: &[Node], branches: &[u32]) -> bool
+    ensures { result ≡ list_all (has_steps nodes.now) branches.now }
+{
+    for branch in branches {
+        if !has_steps(nodes, *branch) {
+            return false;
+        }
+    }
+    true
+}
+
+/// Whether the node of this number is a branch with a step.
+fn has_steps(nodes: &[Node], n: u32) -> bool
+    ensures { result ≡ has_steps nodes.now n }
+{
+    match nodes.get(n as usize) {
+        Some(node) => is_begun(&node.kind),
+        None => false,
+    }
+}
+
+/// Whether a node of this kind is a branch with a step.
+fn is_begun(kind: &NodeKind) -> bool
+    ensures { result ≡ is_begun kind.now }
+{
+    match kind {
+        NodeKind::Branch(block) => has_any(block.steps.as_slice()),
+        _ => false,
+    }
+}
+
+fn has_any(numbers: &[u32]) -> bool
+    ensures { result ≡ has_any numbers.now }
+{
+    match numbers {
+        [] => false,
+        [_, ..] => true,
     }
 }
 
@@ -103,6 +157,19 @@ pub fn try_node(nodes: &[Node], n: u32) -> &TryNode
     let node = &nodes[n as usize];
     match &node.kind {
         NodeKind::Try(tried) => tried,
+        _ => unreachable!(),
+    }
+}
+
+/// The parallel step that a node is.
+#[tactic(auto, using(crate::proofs::Parts::parallel_within))]
+pub fn parallel_node(nodes: &[Node], n: u32) -> &ParallelNode
+    requires { (p : parallel_node.ParallelNode) × IsParallel nodes.now n p }
+    ensures { IsParallel nodes.now n result.now }
+{
+    let node = &nodes[n as usize];
+    match &node.kind {
+        NodeKind::Parallel(body) => body,
         _ => unreachable!(),
     }
 }

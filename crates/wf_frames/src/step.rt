@@ -11,7 +11,7 @@ ghost use Rattle.wf_ast.specs.Apply.{View};
 ghost use Rattle.wf_model.specs.Config.{Item};
 ghost use Rattle.wf_model.specs.Move as move;
 ghost use Rattle.wf_model.specs.Move.{entered};
-ghost use Rattle.wf_frames.specs.Built.{Tells};
+ghost use Rattle.wf_frames.specs.Built.{IsTableOf};
 ghost use Rattle.wf_frames.specs.Steps.{AsksWith, CallsWith, CarriesCall, CarriesOut, Fails, Holds, IsDone, IsNoCall, IsOf, IsReady, LeadsSo, Performs, PerformsCall, RaisesValue, ReturnsValue, Within, arm_in, ends, is_idle, is_idle_kind};
 ghost use Rattle.wf_frames.specs.declared.frames.Frame.{Frame};
 ghost use Rattle.wf_model.specs.NodeKinds.{call_by, over_by};
@@ -43,6 +43,8 @@ pub enum Leads {
     Returns(Value),
     /// The call of the node, with the arguments by their names.
     Calls(u32, Map),
+    /// The parallel step of the node is entered. Nothing of it is evaluated yet.
+    Forks(u32),
 }
 
 /// What is still to be done of a step, beside its frames. What has a value at hand stands in a box: what every step hands on is small.
@@ -143,7 +145,7 @@ fn truth_of(value: &Value) -> Result<bool, Raise>
 #[inline(always)]
 fn holds<K: Look>(alloc: Global, nodes: &[Node], n: u32, look: &K, now: u64) -> Result<bool, Raise>
     ghost ns: { List Spot }
-    requires tells { Tells ns nodes.now }
+    requires tells { IsTableOf ns nodes.now }
     requires within { n < length nodes.now }
     ensures { Holds ns n (seen (K.sight look.now) now) result }
 {
@@ -167,7 +169,7 @@ fn choose<K: Look>(
     now: u64,
 ) -> Result<Option<u32>, Raise>
     ghost at: { Within }
-    requires tells { Tells at.spots nodes.now }
+    requires tells { IsTableOf at.spots nodes.now }
     requires arms { ArmsStandIn at.spots (length nodes.now) at.owners arms.now }
     ensures within { IfOk result
         (λ o. IfSome o (λ n. (n < length nodes.now) × (owners_at at.spots n ≡ at.owners))) }
@@ -190,7 +192,7 @@ fn choose<K: Look>(
 }
 
 /// What a loop goes over.
-fn left_of<K: Look>(
+pub(crate) fn left_of<K: Look>(
     alloc: Global,
     over: &OverShape,
     codes: &[Postfix],
@@ -264,7 +266,7 @@ fn switch<K: Look>(
     now: u64,
 ) -> Result<Step, OutOfMemory>
     ghost at: { Within }
-    requires tells { Tells at.spots nodes.now }
+    requires tells { IsTableOf at.spots nodes.now }
     requires arms { ArmsStandIn at.spots (length nodes.now) at.owners arms.now }
     requires fits { Fits at.spots nodes.now (inner frames.old) }
     requires inside { at.owners ≡ reach (inner frames.old) }
@@ -349,7 +351,7 @@ fn calls<K: Look>(
 /// The frame of the body of a `try`.
 pub fn body_frame(nodes: &[Node], body: u32) -> Frame
     ghost ns: { List Spot }
-    requires tells { Tells ns nodes.now }
+    requires tells { IsTableOf ns nodes.now }
     requires within { body < length nodes.now }
     requires next { has_next (view_at nodes.now body) ≡ false }
     ensures item { (k : List Item) → items ns result k ≡ entered (part_body (part_at ns body)) ∷ k }
@@ -373,7 +375,7 @@ fn enter_try(
     frames: &mut Frames,
 ) -> Result<Step, OutOfMemory>
     ghost ns: { List Spot }
-    requires tells { Tells ns nodes.now }
+    requires tells { IsTableOf ns nodes.now }
     requires tried { IsTry nodes.now n tried.now }
     requires fits { Fits ns nodes.now (inner frames.old) }
     requires inside { owners_at ns n ≡ reach (inner frames.old) }
@@ -404,7 +406,7 @@ fn perform_plain<K: Look>(
     now: u64,
 ) -> Result<Step, OutOfMemory>
     ghost ns: { List Spot }
-    requires tells { Tells ns nodes.now }
+    requires tells { IsTableOf ns nodes.now }
     requires within { n < length nodes.now }
     requires other { (f : call_node.CallNode) → IsCall nodes.now n f → ⊥ }
     requires fits { Fits ns nodes.now (inner frames.old) }
@@ -436,7 +438,7 @@ fn perform_plain<K: Look>(
         NodeKind::Raise(shape) => raises(alloc, shape, codes, look, now),
         NodeKind::Return(shape) => returns(alloc, shape, codes, look, now),
         NodeKind::Try(tried) => enter_try(alloc, nodes, n, tried, frames),
-        NodeKind::Parallel(_) => unreachable!(),
+        NodeKind::Parallel(_) => lead(alloc, Leads::Forks(n)),
         _ => Ok(Step::Goes),
     }
 }
@@ -452,7 +454,7 @@ fn perform<K: Look>(
     now: u64,
 ) -> Result<Step, OutOfMemory>
     ghost ns: { List Spot }
-    requires tells { Tells ns nodes.now }
+    requires tells { IsTableOf ns nodes.now }
     requires within { n < length nodes.now }
     requires fits { Fits ns nodes.now (inner frames.old) }
     requires inside { owners_at ns n ≡ reach (inner frames.old) }
@@ -485,7 +487,7 @@ pub(crate) fn carry_out<K: Look>(
     now: u64,
 ) -> Result<Step, OutOfMemory>
     ghost ns: { List Spot }
-    requires tells { Tells ns nodes.now }
+    requires tells { IsTableOf ns nodes.now }
     requires within { n < length nodes.now }
     requires fits { Fits ns nodes.now (inner frames.old) }
     requires inside { owners_at ns n ≡ reach (inner frames.old) }

@@ -36,7 +36,7 @@ fn behind(first: i64, last: i64) -> Left
 impl Left {
     /// The next value is taken, if one is left.
     #[inline(always)]
-    pub(crate) fn take(&mut self, alloc: Global) -> Result<Option<Value>, OutOfMemory>
+    pub fn take(&mut self, alloc: Global) -> Result<Option<Value>, OutOfMemory>
         ensures { IfOk result (λ o. option_map (λ v. (plain v, left_view self.new)) o
             ≡ next_of (left_view self.old)) }
     {

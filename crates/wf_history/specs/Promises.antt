@@ -55,7 +55,7 @@ pub record Opens {H : Type 0} (world : H → World) (faults : H → Faults) (ent
   -- no count of failed calls falls
   pub counts : NoCountFalls faults entry exit
 
-pub record Gives {H : Type 0} (world : H → World) (faults : H → Faults) (before after : History) (entry exit : H) (result : Result (Option Record) HistoryFault) : Type 0 where
+pub record ReadsNext {H : Type 0} (world : H → World) (faults : H → Faults) (before after : History) (entry exit : H) (result : Result (Option Record) HistoryFault) : Type 0 where
   -- ## The record
   -- the payload that comes next means it, and behind that comes what comes next now; none is given where nothing comes next
   pub «record» : Told (world entry) (IfOk result (λ found. MatchOption found (ahead before (world entry).seen ≡ []) (λ r. (payload : List ℕ) × (ahead before (world entry).seen ≡ payload ∷ ahead after (world entry).seen) × (meaning payload ≡ Some (record_view r)))))

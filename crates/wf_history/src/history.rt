@@ -21,7 +21,7 @@ impl History {
     ghost use Rattle.wf_events.specs.Spelling.{record_bytes, HasSpelling};
     ghost use Rattle.wf_events.specs.View.{start_view, turn_view};
     ghost use Rattle.wf_history.specs.Faults.{IsFaultAt};
-    ghost use Rattle.wf_history.specs.Promises.{Opens, Gives, Begins, Adds};
+    ghost use Rattle.wf_history.specs.Promises.{Opens, ReadsNext, Begins, Adds};
     ghost use Rattle.wf_history.specs.Stands.{is_new, at_end, is_closed, place, last, Stands};
     ghost use Rattle.wf_host.specs.World.{Told};
     ghost use Rattle.wf_journal.specs.Records.{records};
@@ -60,6 +60,13 @@ impl History {
         self.journal.at_end()
     }
 
+    /// Whether the disk failed in an earlier call.
+    pub fn is_closed(&self) -> bool
+        ensures { result ≡ is_closed self.now }
+    {
+        self.journal.is_closed()
+    }
+
     /// The next record, or nothing behind the last.
     ///
     /// The error is `BadRecord` with the payload's number where it is no record, or `OutOfMemory`, and then the history stays as it was and
@@ -72,7 +79,7 @@ impl History {
     ) -> Result<Option<Record>, HistoryFault>
         requires kept { is_closed self.old ≡ false
             → Told (H.world host.old) (Stands self.old (H.world host.old)) }
-        ensures { Gives H.world H.faults self.old self.new host.old host.new result }
+        ensures { ReadsNext H.world H.faults self.old self.new host.old host.new result }
     {
         let before = self.journal;
         let mut room = Vec::new(alloc);
@@ -123,7 +130,7 @@ impl History {
             → Told (H.world host.old) (Stands self.old (H.world host.old)) }
         ensures { Begins H.world H.faults self.old self.new host.old host.new start.now result }
     {
-        if self.journal.is_closed() {
+        if self.is_closed() {
             return Err(HistoryFault::Closed);
         }
         let payload = encode_start(alloc, start)?;
@@ -154,7 +161,7 @@ impl History {
             → Told (H.world host.old) (Stands self.old (H.world host.old)) }
         ensures { Adds H.world H.faults self.old self.new host.old host.new turn.now result }
     {
-        if self.journal.is_closed() {
+        if self.is_closed() {
             return Err(HistoryFault::Closed);
         }
         let payload = encode_turn(alloc, turn)?;

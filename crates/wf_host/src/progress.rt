@@ -27,6 +27,7 @@ impl Model for Progress {
 }
 
 impl Progress {
+    /// What is planned, with no call made yet.
     pub(crate) fn new(
         clock: Vec<u64>,
         fail: Vec<u64>,

@@ -18,6 +18,7 @@ pub(crate) fn argument<'a>(args: &'a Map, name: &str) -> Option<&'a Value>
     args.get(name)
 }
 
+/// A text that must be there.
 pub(crate) fn text_at<'a>(args: &'a Map, name: &str) -> Result<&'a Text, Raise>
     ensures { Answers (λ t. t.now) result (as_text (get name.now (pairs_of args.now))) }
 {

@@ -3,7 +3,6 @@ pub mod Codes
 pub mod Coming
 pub mod Fronts
 pub mod Lasting
-pub mod Names
 pub mod OneAnswer
 pub mod Sizes
 pub mod Small

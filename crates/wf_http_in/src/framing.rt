@@ -25,6 +25,7 @@ pub(crate) enum Framing {
     Bad,
 }
 
+/// How the body of an answer with this head is told.
 pub(crate) fn framing_of(head: &Head) -> Framing
     ensures { IsFramed result (bodies.framing_of head.now.code head.now.fields) }
 {

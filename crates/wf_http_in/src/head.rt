@@ -1,5 +1,5 @@
 // The head of an answer.
-ghost use Rattle.std.specs.Prelude.{◌≡◌, ◌≤◌, All, IfOk, IsUtf8, length, map, option_map, slice_get};
+ghost use Rattle.std.specs.Prelude.{◌≡◌, ◌≤◌, All, IfOk, length, map};
 ghost use Rattle.httparse.specs.Grammar.{ResponseHead};
 ghost use Rattle.httparse.specs.Spans.{IsHeaderWithin, IsResponseAt, IsResponseOf, IsResponseWithin, header_bytes};
 ghost use Rattle.wf_http_in.specs.Found.{IsHeadOf};
@@ -22,11 +22,11 @@ impl Model for Head {
 
     ghost Value = { HeadData };
 
-    ghost use Rattle.std.specs.Prelude.{◌≤◌, All, IsUtf8};
+    ghost use Rattle.std.specs.Prelude.{◌≤◌};
 
     ghost view = { λ a. record { code = a.code; fields = a.fields.items } };
 
-    ghost invariant = { λ a. All (λ f. IsUtf8 f.0) a.fields.items × (a.code ≤ 999) };
+    ghost invariant = { λ a. a.code ≤ 999 };
 }
 
 impl Head {
@@ -57,23 +57,8 @@ impl Head {
         self.code
     }
 
-    /// The name and the value of field `i`, from 0 on, the value without the blanks around it.
-    /// There is none where there are no more than `i` fields.
-    pub fn field(&self, i: usize) -> Option<(&str, &[u8])>
-        ensures { option_map (λ f. (f.0.now, f.1.now)) result ≡ slice_get self.now.fields i }
-    {
-        if i >= self.fields.len() {
-            return None;
-        }
-        let field = &self.fields[i];
-        match str::from_utf8(field.0.as_slice()) {
-            Ok(name) => Some((name, field.1.as_slice())),
-            Err(_) => unreachable!(),
-        }
-    }
-
-    /// All fields.
-    pub(crate) fn fields(&self) -> &[(Bytes, Bytes)]
+    /// The fields in their order: names, and values without the blanks around them.
+    pub fn fields(&self) -> &[(Bytes, Bytes)]
         ensures { result.now ≡ self.now.fields }
     {
         self.fields.as_slice()

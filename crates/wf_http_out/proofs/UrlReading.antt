@@ -29,7 +29,7 @@ use Rattle.wf_http_out.specs.declared.goal.Goal.{Goal}
 use Rattle.wf_http_out.specs.declared.parts.Parts.{Parts}
 use Rattle.wf_http_out.specs.Parts.{IsPartsOf}
 use Rattle.wf_http_out.specs.Urls.{IsNoUrl, is_sendable, is_short_text, address_of}
-use Rattle.wf_http_out.specs.View.{Gives, goal_view}
+use Rattle.wf_http_out.specs.View.{AgreesWith, goal_view}
 
 -- ## Tests
 if_some : (b : Bool) (x : Option Url) (u : Url) → cond b x None ≡ Some u → (b ≡ true) × (x ≡ Some u)
@@ -311,12 +311,12 @@ no_url_fails s routes none = ap (λ (o : Option Url). goal_of o routes) (nothing
     nothing None e = e
     nothing (Some u) e = absurd (none u (url_to s u e))
 
-pub fails : (s : Text) (routes : Routes) (e : OutFault) → (IsErrOf {T = Parts} (Err e) fault.BadUrl → IsNoUrl s) → (IsErrOf {T = Parts} (Err e) fault.NoRoute → ⊥) → (IsErrOf {T = Parts} (Err e) fault.BadHeader → ⊥) → (IsErrOf {T = Parts} (Err e) fault.BadBody → ⊥) → Gives goal_view (Err e) (goal s routes)
+pub fails : (s : Text) (routes : Routes) (e : OutFault) → (IsErrOf {T = Parts} (Err e) fault.BadUrl → IsNoUrl s) → (IsErrOf {T = Parts} (Err e) fault.NoRoute → ⊥) → (IsErrOf {T = Parts} (Err e) fault.BadHeader → ⊥) → (IsErrOf {T = Parts} (Err e) fault.BadBody → ⊥) → AgreesWith goal_view (Err e) (goal s routes)
 fails s routes fault.BadUrl bad route header body = no_url_fails s routes (bad refl)
 fails s routes fault.BadHeader bad route header body = absurd (header refl)
 fails s routes fault.NoRoute bad route header body = absurd (route refl)
 fails s routes fault.BadBody bad route header body = absurd (body refl)
 fails s routes fault.OutOfMemory bad route header body = tt
 
-pub leads : (s : Text) (routes : Routes) (u : Url) (r : Result Goal OutFault) → IsUrl s u → Gives goal_view r (goal_at u (address_of u routes)) → Gives goal_view r (goal s routes)
-leads s routes u r h given = subst (λ (o : Option Url). Gives goal_view r (goal_of o routes)) (sym (url_from s u h)) given
+pub leads : (s : Text) (routes : Routes) (u : Url) (r : Result Goal OutFault) → IsUrl s u → AgreesWith goal_view r (goal_at u (address_of u routes)) → AgreesWith goal_view r (goal s routes)
+leads s routes u r h given = subst (λ (o : Option Url). AgreesWith goal_view r (goal_of o routes)) (sym (url_from s u h)) given

@@ -28,6 +28,6 @@ cause fault.BadBody = Some url.BadBody
 cause fault.OutOfMemory = None
 
 -- the answer is the definition's, unless memory was wanting
-abbrev pub Gives : {A B : Type 0} → (A → B) → Result A OutFault → Result B url.OutFault → Type 0
-Gives view (Ok x) r = r ≡ Ok (view x)
-Gives view (Err e) r = IfSome (cause e) (λ f. r ≡ Err f)
+abbrev pub AgreesWith : {A B : Type 0} → (A → B) → Result A OutFault → Result B url.OutFault → Type 0
+AgreesWith view (Ok x) r = r ≡ Ok (view x)
+AgreesWith view (Err e) r = IfSome (cause e) (λ f. r ≡ Err f)

@@ -1,20 +1,17 @@
 // What is sent of a body, and whether it may stand under the caller's Content-Type.
-ghost use Rattle.std.specs.Prelude.{◌≡◌, ◌≤◌, IfOk, option_map, bytes_eq, reverse};
+ghost use Rattle.std.specs.Prelude.{◌≡◌, ◌≤◌, IfOk, option_map, bytes_eq};
 ghost use Rattle.std.specs.Option.{ForSome};
 ghost use Rattle.std.specs.List.{list_all};
-ghost use Rattle.httparse.specs.Grammar.{skip_ows, trim_ows};
-ghost use Rattle.http_uri.specs.ByteClasses.{split_once_front};
 ghost use Rattle.wf_value.specs.HttpRequest as request;
-ghost use Rattle.wf_value.specs.HttpText.{json_type, media_type_of, semicolon_byte};
+ghost use Rattle.wf_value.specs.HttpText.{json_type, media_type_of};
 ghost use Rattle.wf_value.specs.Data.{depth};
 ghost use Rattle.wf_value.specs.Plain.{plain};
 ghost use Rattle.wf_http_out.specs.Asked.{asked_view, body_view, payload_view};
 
 use crate::Asked;
 use crate::names::is_same_name;
-use httparse::is_space_or_tab;
 use std::alloc::Global;
-use wf_value::{Bytes, OutOfMemory, Text, Value, to_json};
+use wf_value::{Bytes, OutOfMemory, Text, Value, media_type_of, to_json};
 
 /// The bytes of a body, and its media type where the caller gives none.
 #[derive(Drop)]
@@ -100,42 +97,5 @@ fn are_json_types(fields: &[(Text, Text)]) -> bool
 fn is_json_type(value: &str) -> bool
     ensures { result ≡ bytes_eq (media_type_of value.now) json_type }
 {
-    trimmed(before_semicolon(value).as_bytes()).eq_ignore_ascii_case(b"application/json")
-}
-
-fn before_semicolon(value: &str) -> &str
-    ensures { result.now ≡ split_once_front semicolon_byte value.now }
-{
-    match value.split_once(';') {
-        Some(parts) => parts.0,
-        None => value,
-    }
-}
-
-fn trimmed(text: &[u8]) -> &[u8]
-    ensures { result.now ≡ trim_ows text.now }
-{
-    trimmed_end(trimmed_start(text))
-}
-
-fn trimmed_start(mut text: &[u8]) -> &[u8]
-    ensures { result.now ≡ skip_ows text.now }
-{
-    while let [first, rest @ ..] = text
-        && is_space_or_tab(*first)
-    {
-        text = rest;
-    }
-    text
-}
-
-fn trimmed_end(mut text: &[u8]) -> &[u8]
-    ensures { result.now ≡ reverse (skip_ows (reverse text.now)) }
-{
-    while let [rest @ .., last] = text
-        && is_space_or_tab(*last)
-    {
-        text = rest;
-    }
-    text
+    media_type_of(value).eq_ignore_ascii_case(b"application/json")
 }

@@ -3,7 +3,7 @@ ghost use Rattle.std.specs.Prelude.{IfOk, IsErrOf};
 ghost use Rattle.wf_value.specs.HttpUrl.{Url, goal, goal_at};
 ghost use Rattle.wf_http_out.specs.Parts.{IsPartsOf};
 ghost use Rattle.wf_http_out.specs.Urls.{IsNoUrl, LeadsTo, LeadsNowhere, address_of};
-ghost use Rattle.wf_http_out.specs.View.{Gives, goal_view, routes_view};
+ghost use Rattle.wf_http_out.specs.View.{AgreesWith, goal_view, routes_view};
 
 use crate::parts::{Parts, read_url};
 use crate::route::find_route;
@@ -24,7 +24,7 @@ pub fn address(alloc: Global, url: &str, routes: &Routes) -> Result<Goal, OutFau
     ensures bad_url { IsErrOf result OutFault.BadUrl → IsNoUrl url.now }
     ensures no_route { IsErrOf result OutFault.NoRoute
         → LeadsNowhere url.now (routes_view routes.now) }
-    ensures as_function { Gives goal_view result (goal url.now (routes_view routes.now)) }
+    ensures as_function { AgreesWith goal_view result (goal url.now (routes_view routes.now)) }
 {
     match read_url(alloc, url) {
         Ok(parts) => goal_of(parts, routes),
@@ -34,7 +34,7 @@ pub fn address(alloc: Global, url: &str, routes: &Routes) -> Result<Goal, OutFau
 
 fn goal_of(parts: Parts, routes: &Routes) -> Result<Goal, OutFault>
     ensures { (u : Url) → IsPartsOf u parts
-        → Gives goal_view result (goal_at u (address_of u (routes_view routes.now))) }
+        → AgreesWith goal_view result (goal_at u (address_of u (routes_view routes.now))) }
 {
     let Parts {
         is_secure,

@@ -37,6 +37,7 @@ impl Lines {
         self.put("\r\n")
     }
 
+    /// The first line: the method, the target with the query behind it, and the version.
     pub(crate) fn start(
         &mut self,
         method: Method,
@@ -95,6 +96,7 @@ impl Lines {
         utf8_percent_encode(text, URL).append_to(&mut self.text)
     }
 
+    /// The line of a field.
     pub(crate) fn field(&mut self, name: &str, value: &str) -> Result<(), AllocError>
         ensures { OnOk result (string_bytes self.new.text
             ≡ string_bytes self.old.text ++ field_line (name.now, value.now)) }
@@ -105,6 +107,7 @@ impl Lines {
         self.put("\r\n")
     }
 
+    /// The lines of some fields, in their order.
     pub(crate) fn fields(&mut self, fields: &[(Text, Text)]) -> Result<(), AllocError>
         ensures { OnOk result (string_bytes self.new.text
             ≡ string_bytes self.old.text ++ flat_map field_line fields.now) }

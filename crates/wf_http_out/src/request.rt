@@ -1,11 +1,11 @@
 // The bytes of a request.
-ghost use Rattle.std.specs.Prelude.{◌≡◌, ◌≤◌, [], false, IfOk, IsErrOf, option_map, string_bytes};
+ghost use Rattle.std.specs.Prelude.{◌≡◌, ◌≤◌, IfOk, option_map, string_bytes};
 ghost use Rattle.std.specs.Option.{ForSome};
 ghost use Rattle.wf_value.specs.HttpRequest as request;
 ghost use Rattle.wf_value.specs.Data.{depth};
 ghost use Rattle.wf_value.specs.Plain.{plain};
 ghost use Rattle.wf_http_out.specs.Asked.{asked_view, head_text, payload_view};
-ghost use Rattle.wf_http_out.specs.View.{Gives, goal_view};
+ghost use Rattle.wf_http_out.specs.View.{AgreesWith, goal_view};
 
 use crate::body::{Payload, is_good_body, payload_of};
 use crate::fields::are_good_fields;
@@ -30,13 +30,7 @@ pub fn request_bytes(
     k: u64,
 ) -> Result<Bytes, OutFault>
     requires { ForSome asked.now.body (λ v. depth (plain v) ≤ 100) }
-    ensures bytes { IfOk result (λ b. b ≡ request.request_text (goal_view goal.now)
-        (asked_view asked.now) id.now k) }
-    ensures bad_header { IsErrOf result OutFault.BadHeader
-        → request.good_fields [] asked.now.fields ≡ false }
-    ensures bad_body { IsErrOf result OutFault.BadBody
-        → request.good_body (asked_view asked.now) ≡ false }
-    ensures as_function { Gives (λ b. b) result
+    ensures { AgreesWith (λ b. b) result
         (request.request_bytes (goal_view goal.now) (asked_view asked.now) id.now k) }
 {
     if !are_good_fields(asked.fields.items()) {

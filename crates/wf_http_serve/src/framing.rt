@@ -23,6 +23,7 @@ pub(crate) enum Framing {
     Bad,
 }
 
+/// How the body of a request with these fields is told.
 pub(crate) fn framing_of(fields: &[(Bytes, Bytes)]) -> Framing
     ensures { IsFramed result (framing fields.now) }
 {

@@ -13,6 +13,8 @@ mod stage;
 mod visit;
 
 pub use asker::{Asker, VisitState};
-pub use laws::visits_have_one_state;
+pub use laws::{
+    asked_stays, each_text_is_read, each_visit_has_a_state, visits_are_small, visits_have_one_state,
+};
 pub use reply::{ReplyCode, reply_bytes};
 pub use visit::Visit;

@@ -1,4 +1,3 @@
 pub mod Naming
 pub mod Bodies
-pub mod Copies
 pub mod Fields

@@ -11,10 +11,10 @@ use Rattle.wf_http_value.specs.declared.fault.ReplyFault.{ReplyFault}
 use Rattle.wf_http_value.specs.declared.fault.ReplyFault.TheVariants as fault
 
 -- this result: its value, or the error that is raised. Where there is no memory nothing is said
-abbrev pub Gives : Result Value ReplyFault → Result Data Data → Type 0
-Gives (Ok v) r = r ≡ Ok (plain v)
-Gives (Err (fault.Raised e)) r = r ≡ Err (plain e)
-Gives (Err fault.OutOfMemory) r = Unit {0}
+abbrev pub GivesOrRaises : Result Value ReplyFault → Result Data Data → Type 0
+GivesOrRaises (Ok v) r = r ≡ Ok (plain v)
+GivesOrRaises (Err (fault.Raised e)) r = r ≡ Err (plain e)
+GivesOrRaises (Err fault.OutOfMemory) r = Unit {0}
 
 -- the same of a body's value
 abbrev pub GivesBody : Result Value BodyFault → Answer Data → Type 0

@@ -1,16 +1,14 @@
 // What the fields of a message say of its body.
-ghost use Rattle.std.specs.Prelude.{◌≡◌, codes, option_map, reverse};
-ghost use Rattle.http_uri.specs.ByteClasses.{lowercase, split_once_front};
-ghost use Rattle.httparse.specs.Grammar.{skip_ows, trim_ows};
+ghost use Rattle.std.specs.Prelude.{◌≡◌, codes, option_map};
+ghost use Rattle.http_uri.specs.ByteClasses.{lowercase};
 ghost use Rattle.wf_http_value.specs.Media.{is_encoded, kind_of};
-ghost use Rattle.wf_value.specs.HttpText.{is_field_named, media_type, media_type_of, semicolon_byte};
+ghost use Rattle.wf_value.specs.HttpText.{is_field_named, media_type, media_type_of};
 ghost use Rattle.wf_value.specs.LibText.{starts_with};
 ghost use Rattle.wf_value.specs.Data.{pairs_of};
 ghost use Rattle.wf_value.specs.Pairs.{get};
 ghost use Rattle.wf_value.specs.Plain.{plain};
 
-use httparse::is_space_or_tab;
-use wf_value::{Bytes, Map, Value};
+use wf_value::{Bytes, Map, Value, media_type_of};
 
 /// What the media type of a body makes it.
 #[derive(Clone, Copy)]
@@ -44,7 +42,7 @@ fn media_told(content_type: Option<&Value>) -> Media
 fn kind_of(value: &str) -> Media
     ensures { result ≡ kind_of (media_type_of value.now) }
 {
-    let media_type = trimmed(before_semicolon(value).as_bytes());
+    let media_type = media_type_of(value);
     if media_type.eq_ignore_ascii_case(b"application/json") {
         Media::Json
     } else if is_text(media_type) {
@@ -76,41 +74,4 @@ fn is_named(name: &[u8], field: &(Bytes, Bytes)) -> bool
     ensures { result ≡ is_field_named name.now field.now }
 {
     name.eq_ignore_ascii_case(field.0.as_slice())
-}
-
-fn before_semicolon(value: &str) -> &str
-    ensures { result.now ≡ split_once_front semicolon_byte value.now }
-{
-    match value.split_once(';') {
-        Some(parts) => parts.0,
-        None => value,
-    }
-}
-
-fn trimmed(text: &[u8]) -> &[u8]
-    ensures { result.now ≡ trim_ows text.now }
-{
-    trimmed_end(trimmed_start(text))
-}
-
-fn trimmed_start(mut text: &[u8]) -> &[u8]
-    ensures { result.now ≡ skip_ows text.now }
-{
-    while let [first, rest @ ..] = text
-        && is_space_or_tab(*first)
-    {
-        text = rest;
-    }
-    text
-}
-
-fn trimmed_end(mut text: &[u8]) -> &[u8]
-    ensures { result.now ≡ reverse (skip_ows (reverse text.now)) }
-{
-    while let [rest @ .., last] = text
-        && is_space_or_tab(*last)
-    {
-        text = rest;
-    }
-    text
 }

@@ -1,5 +1,5 @@
 // What an answer gives or raises.
-ghost use Rattle.wf_http_value.specs.Gives.{Gives};
+ghost use Rattle.wf_http_value.specs.Gives.{GivesOrRaises};
 ghost use Rattle.wf_value.specs.Events.{Response};
 ghost use Rattle.wf_value.specs.HttpText.{reply_result};
 
@@ -24,7 +24,7 @@ pub fn response_value(
     fields: &[(Bytes, Bytes)],
     body: &[u8],
 ) -> Result<Value, ReplyFault>
-    ensures { Gives result (reply_result (Response code fields.now body.now)) }
+    ensures { GivesOrRaises result (reply_result (Response code fields.now body.now)) }
 {
     let is_error = code >= 400;
     let headers = header_map(alloc, fields)?;

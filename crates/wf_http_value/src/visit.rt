@@ -1,7 +1,7 @@
 // What a request to a callback gives.
 ghost use Rattle.std.specs.Prelude.{◌≡◌, IfOk};
 ghost use Rattle.wf_callbacks.specs.Plain.{plain_visitor};
-ghost use Rattle.wf_http_value.specs.Gives.{Gives};
+ghost use Rattle.wf_http_value.specs.Gives.{GivesOrRaises};
 ghost use Rattle.wf_value.specs.HttpText.{header_map, visit_map, visit_result};
 ghost use Rattle.wf_value.specs.Data.{pairs_of};
 ghost use Rattle.wf_value.specs.Plain.{plain};
@@ -20,7 +20,7 @@ use wf_value::{Map, OutOfMemory, Text, Value};
 ///
 /// A ResourceLimitError past the limits on size, 4,194,304, and on nesting, 100.
 pub fn visit_value(alloc: Global, visitor: &Visitor) -> Result<Value, ReplyFault>
-    ensures { Gives result (visit_result (plain_visitor visitor.now)) }
+    ensures { GivesOrRaises result (visit_result (plain_visitor visitor.now)) }
 {
     let fields = visitor.headers.items();
     let headers = header_map(alloc, fields)?;

@@ -1,14 +1,16 @@
 -- What the calls on a journal promise: each fact by its name. `before` and `after` are the journal, `entry` and `exit` the host.
 use Rattle.std.specs.Borrow.{Bor}
 use Rattle.std.specs.Prelude.{◌≡◌, ◌↔◌, ◌⊎◌, ◌<◌, ◌≤◌, ◌++◌, [], ◌∷◌, ℕ, true, false, List, length, Option, IfOk, OnOk, OnErr, IfNone, IfSome, IsErrOf, MatchOption, Result}
-use Rattle.wf_host.specs.Calls.{AtAnyMoment, DiskFailed, DoesNoDeed, NoCountFalls, ReadsAsBefore, TellsAsBefore}
-use Rattle.wf_host.specs.World.{World, Faults, Told}
+use Rattle.wf_host.specs.Calls.{AtAnyMoment, DiskFailed, DoesNoDeed, NoCountFalls, OnlyErrors, ReadsAsBefore, TellsAsBefore}
+use Rattle.wf_host.specs.World.{World, Faults, Only, Told}
 use Rattle.wf_journal.specs.Journal.{HasNone, IsBeforeOrAfter, IsJournal, Stays}
+use Rattle.wf_journal.specs.Reading.{BlockFits, IsBlock}
 use Rattle.wf_journal.specs.Records.{records}
 use Rattle.wf_journal.specs.Stands.{is_new, at_end, is_closed, ahead, unread, Stands}
 use Rattle.wf_journal.specs.declared.fault.JournalFault.{JournalFault}
 use Rattle.wf_journal.specs.declared.fault.JournalFault.TheVariants as fault
 use Rattle.wf_journal.specs.declared.journal.Journal.{Journal}
+use Rattle.wf_journal.specs.declared.reading.Block.{Block}
 
 pub record Opens {H : Type 0} (world : H → World) (faults : H → Faults) (entry exit : H) (result : Result Journal JournalFault) : Type 0 where
   -- ## The journal
@@ -167,6 +169,33 @@ pub record Appends {H : Type 0} (world : H → World) (faults : H → Faults) (b
   pub not_asked : ¬ IsErrOf result fault.NotAJournal
   -- nor `OutOfMemory`
   pub no_memory : ¬ IsErrOf result fault.OutOfMemory
+  -- ## The host
+  -- nothing was done that others can notice
+  pub deeds : DoesNoDeed world entry exit
+  -- whether it tells stays
+  pub tells : TellsAsBefore world entry exit
+  -- no count of failed calls falls
+  pub counts : NoCountFalls faults entry exit
+
+-- what reading the block at a gate promises; `room` is what stands in the room then
+pub record ReadsBlock {H : Type 0} (world : H → World) (faults : H → Faults) (gate size : ℕ) (room : List ℕ) (entry exit : H) (result : Result Block JournalFault) : Type 0 where
+  -- ## The block
+  -- it is what stands at the gate, and the room has its payload
+  pub block : Told (world entry) (IfOk result (λ b. IsBlock (world entry).seen gate room b))
+  -- a payload and the next gate lie in a file of this size
+  pub fits : IfOk result (λ b. BlockFits size gate b)
+  -- ## The file
+  -- it reads as before
+  pub seen : ReadsAsBefore world entry exit
+  -- a crash behind the call leaves just it
+  pub settled : Told (world entry) (Only (world entry).seen (world exit).may_leave)
+  -- and one at any moment of the call, and no deed
+  pub any_moment : AtAnyMoment world entry exit (Stays (world entry))
+  -- ## The errors
+  -- a fault of the disk and want of memory alone
+  pub only : OnlyErrors result (fault.DiskFault ∷ fault.OutOfMemory ∷ [])
+  -- the first only where a disk call failed
+  pub disk_fault : IsErrOf result fault.DiskFault → DiskFailed faults entry exit
   -- ## The host
   -- nothing was done that others can notice
   pub deeds : DoesNoDeed world entry exit

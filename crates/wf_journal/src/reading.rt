@@ -1,9 +1,10 @@
 // The reads of the journal.
-ghost use Rattle.std.specs.Prelude.{◌≡◌, ◌≤◌, ◌<◌, ◌+◌, ◌++◌, ◌^◌, [], true, false, length, vec_len, take, drop, IfOk, OnOk, OnErr, IsErrOf};
-ghost use Rattle.wf_host.specs.Calls.{AtAnyMoment, DiskFailed, DoesNoDeed, NoCountFalls, ReadsAsBefore, TellsAsBefore};
+ghost use Rattle.std.specs.Prelude.{◌≡◌, ◌≤◌, ◌<◌, ◌+◌, ◌++◌, ◌^◌, [], ◌∷◌, true, false, length, vec_len, take, drop, IfOk, OnOk, OnErr, IsErrOf};
+ghost use Rattle.wf_host.specs.Calls.{AtAnyMoment, DiskFailed, DoesNoDeed, NoCountFalls, OnlyErrors, ReadsAsBefore, TellsAsBefore};
 ghost use Rattle.wf_host.specs.World.{longest, Told, Same, Only, Elapses};
 ghost use Rattle.wf_journal.specs.Journal.{Stays};
-ghost use Rattle.wf_journal.specs.Reading.{IsBlock, BlockFits, IsHead, SaysHead, FitsIn};
+ghost use Rattle.wf_journal.specs.Promises.{ReadsBlock};
+ghost use Rattle.wf_journal.specs.Reading.{IsHead, SaysHead, FitsIn};
 
 use crate::JournalFault;
 use std::alloc::AllocError;
@@ -80,9 +81,7 @@ fn read_piece<H: Host>(
     ensures counts { NoCountFalls H.faults host.old host.new }
     ensures disk_fault { IsErrOf result JournalFault.DiskFault
         → DiskFailed H.faults host.old host.new }
-    ensures not_asked { ¬ IsErrOf result JournalFault.NotAJournal }
-    ensures too_long { ¬ IsErrOf result JournalFault.TooLong }
-    ensures closed { ¬ IsErrOf result JournalFault.Closed }
+    ensures only { OnlyErrors result (JournalFault.DiskFault ∷ JournalFault.OutOfMemory ∷ []) }
 {
     let held = room.len();
     room.resize(held + count, 0)?;
@@ -114,9 +113,7 @@ pub(crate) fn read_payload<H: Host>(
     ensures counts { NoCountFalls H.faults host.old host.new }
     ensures disk_fault { IsErrOf result JournalFault.DiskFault
         → DiskFailed H.faults host.old host.new }
-    ensures not_asked { ¬ IsErrOf result JournalFault.NotAJournal }
-    ensures too_long { ¬ IsErrOf result JournalFault.TooLong }
-    ensures closed { ¬ IsErrOf result JournalFault.Closed }
+    ensures only { OnlyErrors result (JournalFault.DiskFault ∷ JournalFault.OutOfMemory ∷ []) }
 {
     let len = len as usize;
     room.clear();
@@ -151,21 +148,7 @@ pub(crate) fn read_block<H: Host>(
     requires size { Told (H.world host.old) (size ≡ length (H.world host.old).seen) }
     requires settled { Told (H.world host.old)
         (Only (H.world host.old).seen (H.world host.old).may_leave) }
-    ensures block { Told (H.world host.old)
-        (IfOk result (λ b. IsBlock (H.world host.old).seen gate room.new.items b)) }
-    ensures fits { IfOk result (λ b. BlockFits size gate b) }
-    ensures seen { ReadsAsBefore H.world host.old host.new }
-    ensures settled { Told (H.world host.old)
-        (Only (H.world host.old).seen (H.world host.new).may_leave) }
-    ensures any_moment { AtAnyMoment H.world host.old host.new (Stays (H.world host.old)) }
-    ensures deeds { DoesNoDeed H.world host.old host.new }
-    ensures tells { TellsAsBefore H.world host.old host.new }
-    ensures counts { NoCountFalls H.faults host.old host.new }
-    ensures disk_fault { IsErrOf result JournalFault.DiskFault
-        → DiskFailed H.faults host.old host.new }
-    ensures not_asked { ¬ IsErrOf result JournalFault.NotAJournal }
-    ensures too_long { ¬ IsErrOf result JournalFault.TooLong }
-    ensures closed { ¬ IsErrOf result JournalFault.Closed }
+    ensures { ReadsBlock H.world H.faults gate size room.new.items host.old host.new result }
 {
     match read_head(host, gate, size) {
         Ok(Head::Open(len)) => match read_payload(host, gate + 5, len, room) {

@@ -19,14 +19,15 @@ use Rattle.wf_value.specs.declared.errors.Tag.TheVariants.{ValueError}
 use Rattle.wf_value.specs.declared.json_text.JsonFault.{JsonFault}
 use Rattle.wf_value.specs.declared.json_text.JsonFault.TheVariants.{NotJson, Decimal, TooDeep, OutOfMemory}
 use Rattle.wf_value.specs.declared.value.Value.{Value}
-use Rattle.wf_lib_data.specs.Gives.{Gives, raised}
+use Rattle.wf_lib_data.specs.Lent.{raised}
+use Rattle.wf_value.specs.Answers.{IsAnswerOf}
 use Rattle.wf_lib_data.proofs.Giving.{gives_same}
 
 -- ## JSON
 abbrev read_as : Option Data → Answer Data
 read_as o = or_error ValueError o >>= sized
 
-pub json_gives : FindsTheValue → (r : Result Value Raise) (b : List ℕ) (v : Value) → IsValue b (plain v) → Gives r (sized (plain v)) → Gives r (json_decode (bytes b))
+pub json_gives : FindsTheValue → (r : Result Value Raise) (b : List ℕ) (v : Value) → IsValue b (plain v) → IsAnswerOf r (sized (plain v)) → IsAnswerOf r (json_decode (bytes b))
 json_gives finds r b v is h = gives_same r (sized (plain v)) (json_decode (bytes b)) (ap read_as (sym ((finds b (plain v)).1 is))) h
 
 none_read : (b : List ℕ) → ((d : Data) → ¬ (json_value b ≡ Some d)) → (o : Option Data) → json_value b ≡ o → o ≡ None
@@ -36,13 +37,13 @@ none_read b bare (Some d) is = absurd (bare d is)
 not_a_value : FindsTheValue → (b : List ℕ) → ¬ (HasValue b) → json_decode (bytes b) ≡ Err ValueError
 not_a_value finds b none = ap read_as (none_read b (λ d is. none (d, (finds b d).0 is)) (json_value b) refl)
 
-fault_gives : FindsTheValue → (b : List ℕ) → NoTwoHold b → (f : JsonFault) → IsFaultOf b f → Gives (Err (raised f)) (json_decode (bytes b))
+fault_gives : FindsTheValue → (b : List ℕ) → NoTwoHold b → (f : JsonFault) → IsFaultOf b f → IsAnswerOf (Err (raised f)) (json_decode (bytes b))
 fault_gives finds b apart NotJson h = not_a_value finds b (λ v. apart.value_or_not_json v h)
 fault_gives finds b apart Decimal h = not_a_value finds b (λ v. apart.value_or_decimal v h)
 fault_gives finds b apart TooDeep h = not_a_value finds b (λ v. apart.value_or_too_deep v h)
 fault_gives finds b apart OutOfMemory h = tt
 
-pub json_fails : FindsTheValue → (b : List ℕ) → NoTwoHold b → (f : JsonFault) (e : Raise) → e ≡ raised f → IsFaultOf b f → Gives (Err e) (json_decode (bytes b))
+pub json_fails : FindsTheValue → (b : List ℕ) → NoTwoHold b → (f : JsonFault) (e : Raise) → e ≡ raised f → IsFaultOf b f → IsAnswerOf (Err e) (json_decode (bytes b))
 json_fails finds b apart f e is h = rw is (fault_gives finds b apart f h)
 
 -- ## Base64
@@ -53,7 +54,7 @@ decodes : (s t : List ℕ) (r : Result (List ℕ) DecodeError) → t ≡ s → d
 unfolding decoded_of
 decodes s t r same h = ap (λ x. result_ok (decode_of standard x)) (sym same) ∙ ap result_ok h
 
-pub base64_gives : (r : Result Value Raise) (s t b c : List ℕ) → t ≡ s → decode_of standard t ≡ Ok b → c ≡ b → Gives r (sized (bytes c)) → Gives r (base64_decode (text s))
+pub base64_gives : (r : Result Value Raise) (s t b c : List ℕ) → t ≡ s → decode_of standard t ≡ Ok b → c ≡ b → IsAnswerOf r (sized (bytes c)) → IsAnswerOf r (base64_decode (text s))
 base64_gives r s t b c same h is g =
     gives_same r (sized (bytes c)) (base64_decode (text s)) (ap (λ x. sized (bytes x)) is ∙ ap decoded_as (sym (decodes s t (Ok b) same h))) g
 

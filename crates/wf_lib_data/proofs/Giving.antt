@@ -11,14 +11,15 @@ use Rattle.wf_value.specs.declared.errors.Raise.{Raise}
 use Rattle.wf_value.specs.declared.errors.Tag.TheVariants.{KeyError}
 use Rattle.wf_value.specs.declared.value.Value.{Value}
 use Rattle.wf_value.specs.declared.value.Value.TheVariants as value
-use Rattle.wf_lib_data.specs.Gives.{Gives, or_null}
+use Rattle.wf_lib_data.specs.Lent.{or_null}
+use Rattle.wf_value.specs.Answers.{IsAnswerOf}
 use Rattle.wf_lib_data.proofs.Places.{items_listed, pairs_listed}
 
-pub gives_same : (r : Result Value Raise) (a b : Answer Data) → a ≡ b → Gives r a → Gives r b
-gives_same r a b e h = subst (λ (x : Answer Data). Gives r x) e h
+pub gives_same : (r : Result Value Raise) (a b : Answer Data) → a ≡ b → IsAnswerOf r a → IsAnswerOf r b
+gives_same r a b e h = subst (λ (x : Answer Data). IsAnswerOf r x) e h
 
 -- ## Lists
-pub concat_gives : (r : Result Value Raise) (v w x y : Value) (ds es : List Data) → w ≡ v → w ≡ value.List ds → y ≡ x → es ≡ ds ++ plain y ∷ [] → Gives r (sized (list (items_of es))) → Gives r (list_concat (plain v) (plain x))
+pub concat_gives : (r : Result Value Raise) (v w x y : Value) (ds es : List Data) → w ≡ v → w ≡ value.List ds → y ≡ x → es ≡ ds ++ plain y ∷ [] → IsAnswerOf r (sized (list (items_of es))) → IsAnswerOf r (list_concat (plain v) (plain x))
 concat_gives r v w x y ds es copy is same grown h =
     gives_same r (sized (list (items_of es))) (list_concat (plain v) (plain x))
     (ap (λ l. sized (list (items_of l))) (grown ∙ ap (λ z. ds ++ plain z ∷ []) same ∙ ap (λ l. l ++ plain x ∷ []) (sym (items_listed ds)))
@@ -34,7 +35,7 @@ has ps k old o is h = ap (λ l. is_some (value_at k l)) (pairs_listed ps) ∙ ap
 pub no_key : (v w : Value) (ps : List (Text × Data)) (k : Text) (old : Option Value) → w ≡ v → w ≡ value.Map ps → old ≡ None → option_map plain old ≡ value_at k ps → map_delete (plain v) (text k) ≡ Err KeyError
 no_key v w ps k old copy is none h = ap (λ z. map_delete (plain z) (text k)) (sym copy ∙ is) ∙ ap (λ b. deleted b ps k) (has ps k old None none h)
 
-pub delete_gives : (r : Result Value Raise) (v w : Value) (ps qs : List (Text × Data)) (k : Text) (old : Option Value) (x : Value) → w ≡ v → w ≡ value.Map ps → qs ≡ without k ps → old ≡ Some x → option_map plain old ≡ value_at k ps → Gives r (sized (map (pairs_of qs))) → Gives r (map_delete (plain v) (text k))
+pub delete_gives : (r : Result Value Raise) (v w : Value) (ps qs : List (Text × Data)) (k : Text) (old : Option Value) (x : Value) → w ≡ v → w ≡ value.Map ps → qs ≡ without k ps → old ≡ Some x → option_map plain old ≡ value_at k ps → IsAnswerOf r (sized (map (pairs_of qs))) → IsAnswerOf r (map_delete (plain v) (text k))
 delete_gives r v w ps qs k old x copy is rest there was h =
     gives_same r (sized (map (pairs_of qs))) (map_delete (plain v) (text k))
     (ap (λ l. sized (map (pairs_of l))) (rest ∙ ap (without k) (sym (pairs_listed ps)))

@@ -1,1 +1,1 @@
-pub mod Gives
+pub mod Lent

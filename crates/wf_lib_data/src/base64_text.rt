@@ -1,23 +1,22 @@
 // Bytes as base64.
 ghost use Rattle.base64.specs.Engines.{standard};
 ghost use Rattle.base64.specs.GeneralPurpose.{decoded_of};
-ghost use Rattle.wf_lib_data.specs.Gives.{Gives};
+ghost use Rattle.wf_value.specs.Answers.{IsAnswerOf};
 ghost use Rattle.wf_value.specs.LibData.{base64_decode, base64_encode};
 ghost use Rattle.wf_value.specs.Data.{bytes, text};
 ghost use Rattle.wf_value.specs.Plain.{plain};
 
-use crate::answers::{sized_bytes, sized_text};
 use base64::DecodeAllocError;
 use base64::engine::general_purpose::STANDARD;
 use std::alloc::Global;
-use wf_value::{Raise, Tag, Value};
+use wf_value::{Raise, Tag, Value, sized_bytes, sized_text};
 
 /// `base64.encode`: the padded standard base64 of bytes (RFC 4648, section 4).
 ///
 /// A TypeError where `data` is not bytes; a ResourceLimitError where the text is past the limit on
 /// size, 4,194,304.
 pub fn base64_encode(alloc: Global, data: &Value) -> Result<Value, Raise>
-    ensures { Gives result (base64_encode (plain data.now)) }
+    ensures { IsAnswerOf result (base64_encode (plain data.now)) }
 {
     match data {
         Value::Bytes(b) => {
@@ -34,7 +33,7 @@ pub fn base64_encode(alloc: Global, data: &Value) -> Result<Value, Raise>
 /// character of no base64, without its padding or with more, or with bits left over that aren't 0;
 /// a ResourceLimitError where the bytes are past the limit on size, 4,194,304.
 pub fn base64_decode(alloc: Global, data: &Value) -> Result<Value, Raise>
-    ensures { Gives result (base64_decode (plain data.now)) }
+    ensures { IsAnswerOf result (base64_decode (plain data.now)) }
 {
     match data {
         Value::Text(s) => decoded(alloc, s.as_str()),
@@ -43,7 +42,7 @@ pub fn base64_decode(alloc: Global, data: &Value) -> Result<Value, Raise>
 }
 
 fn decoded(alloc: Global, s: &str) -> Result<Value, Raise>
-    ensures { Gives result (base64_decode (text s.now)) }
+    ensures { IsAnswerOf result (base64_decode (text s.now)) }
 {
     match STANDARD.decode(alloc, s.as_bytes()) {
         Ok(b) => sized_bytes(alloc, b.as_slice()),

@@ -1,14 +1,15 @@
 // Values as JSON.
 ghost use Rattle.std.specs.Prelude.{◌≡◌, ◌≤◌};
-ghost use Rattle.wf_lib_data.specs.Gives.{Gives, raised};
+ghost use Rattle.wf_lib_data.specs.Lent.{raised};
+ghost use Rattle.wf_value.specs.Answers.{IsAnswerOf};
 ghost use Rattle.wf_value.specs.LibData.{json_decode, json_encode, json_encode_to_string};
 ghost use Rattle.wf_value.specs.Data.{bytes, depth};
 ghost use Rattle.wf_value.specs.Plain.{plain};
 
-use crate::answers::{sized, sized_bytes, sized_text};
 use std::alloc::Global;
 use wf_value::{
-    JsonFault, Raise, Tag, Value, from_json, reading_is_a_function, reading_is_decided, to_json,
+    JsonFault, Raise, Tag, Value, from_json, reading_is_a_function, reading_is_decided, sized,
+    sized_bytes, sized_text, to_json,
 };
 
 /// `json.encode`: the compact JSON of a value (RFC 8259), as its bytes in UTF-8. Bytes in it are
@@ -17,7 +18,7 @@ use wf_value::{
 /// A ResourceLimitError where the bytes are past the limit on size, 4,194,304.
 pub fn json_encode(alloc: Global, data: &Value) -> Result<Value, Raise>
     requires { depth (plain data.now) ≤ 100 }
-    ensures { Gives result (json_encode (plain data.now)) }
+    ensures { IsAnswerOf result (json_encode (plain data.now)) }
 {
     let json = to_json(alloc, data)?;
     sized_bytes(alloc, json.as_slice())
@@ -29,7 +30,7 @@ pub fn json_encode(alloc: Global, data: &Value) -> Result<Value, Raise>
 /// A ResourceLimitError where the text is past the limit on size, 4,194,304.
 pub fn json_encode_to_string(alloc: Global, data: &Value) -> Result<Value, Raise>
     requires { depth (plain data.now) ≤ 100 }
-    ensures { Gives result (json_encode_to_string (plain data.now)) }
+    ensures { IsAnswerOf result (json_encode_to_string (plain data.now)) }
 {
     let json = to_json(alloc, data)?;
     // JSON is UTF-8.
@@ -46,7 +47,7 @@ pub fn json_encode_to_string(alloc: Global, data: &Value) -> Result<Value, Raise
 /// number is no whole number of 64 bits, or where lists and maps nest deeper than 100; a
 /// ResourceLimitError where the value is past the limit on size, 4,194,304.
 pub fn json_decode(alloc: Global, data: &Value) -> Result<Value, Raise>
-    ensures { Gives result (json_decode (plain data.now)) }
+    ensures { IsAnswerOf result (json_decode (plain data.now)) }
 {
     match data {
         Value::Text(s) => decoded(alloc, s.as_str().as_bytes()),
@@ -57,7 +58,7 @@ pub fn json_decode(alloc: Global, data: &Value) -> Result<Value, Raise>
 
 /// The laws of reading say that what is read is the value, and that a fault leaves none.
 fn decoded(alloc: Global, b: &[u8]) -> Result<Value, Raise>
-    ensures { Gives result (json_decode (bytes b.now)) }
+    ensures { IsAnswerOf result (json_decode (bytes b.now)) }
 {
     // laws that the proof uses
     reading_is_a_function();

@@ -1,7 +1,6 @@
 //! The functions `list.*`, `map.*`, `json.*` and `base64.*` of the language's library.
 #![tactic(auto)]
 
-mod answers;
 mod base64_text;
 mod json_text;
 mod lists;

@@ -1,19 +1,18 @@
 // Lists with one item more.
 ghost use Rattle.std.specs.Prelude.{◌≡◌, ◌∷◌, IfOk};
-ghost use Rattle.wf_lib_data.specs.Gives.{Gives};
+ghost use Rattle.wf_value.specs.Answers.{IsAnswerOf};
 ghost use Rattle.wf_value.specs.LibData.{list_concat, list_prepend};
 ghost use Rattle.wf_value.specs.Plain.{plain, plain_items};
 
-use crate::answers::sized;
 use std::alloc::Global;
-use wf_value::{List, OutOfMemory, Raise, Tag, Value};
+use wf_value::{List, OutOfMemory, Raise, Tag, Value, sized};
 
 /// `list.concat`: the list with a value at its end.
 ///
 /// A TypeError where `objs` is no list; a ResourceLimitError where the answer is past the limit on
 /// size, 4,194,304. The list is copied, its items are shared.
 pub fn list_concat(alloc: Global, objs: &Value, val: &Value) -> Result<Value, Raise>
-    ensures { Gives result (list_concat (plain objs.now) (plain val.now)) }
+    ensures { IsAnswerOf result (list_concat (plain objs.now) (plain val.now)) }
 {
     let mut longer = objs.copy(alloc)?;
     let last = val.copy(alloc)?;
@@ -29,7 +28,7 @@ pub fn list_concat(alloc: Global, objs: &Value, val: &Value) -> Result<Value, Ra
 /// A TypeError where `objs` is no list; a ResourceLimitError where the answer is past the limit on
 /// size, 4,194,304. The list is copied, its items are shared.
 pub fn list_prepend(alloc: Global, objs: &Value, val: &Value) -> Result<Value, Raise>
-    ensures { Gives result (list_prepend (plain objs.now) (plain val.now)) }
+    ensures { IsAnswerOf result (list_prepend (plain objs.now) (plain val.now)) }
 {
     match objs {
         Value::List(list) => sized(Value::List(behind(alloc, val, list.items())?)),

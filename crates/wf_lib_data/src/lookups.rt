@@ -1,14 +1,14 @@
 // Values inside maps.
 ghost use Rattle.std.specs.Prelude.{◌≡◌};
-ghost use Rattle.wf_lib_data.specs.Gives.{Gives, or_null};
+ghost use Rattle.wf_lib_data.specs.Lent.{or_null};
+ghost use Rattle.wf_value.specs.Answers.{IsAnswerOf};
 ghost use Rattle.wf_value.specs.LibData.{follow, follow_all, map_get, texts_in};
 ghost use Rattle.wf_value.specs.Data.{items_of};
 ghost use Rattle.wf_value.specs.Errors.{sized};
 ghost use Rattle.wf_value.specs.Plain.{plain, plain_items};
 
-use crate::answers::sized;
 use std::alloc::Global;
-use wf_value::{Raise, Tag, Value};
+use wf_value::{Raise, Tag, Value, sized};
 
 /// `map.get`: the value at a key of a map; with a list of keys, the value at the first, in that the
 /// value at the second, and so on. It is null where a key is missing, or the value is no map.
@@ -16,7 +16,7 @@ use wf_value::{Raise, Tag, Value};
 /// A TypeError where `keys` is neither a text nor a list of texts; a ResourceLimitError where the
 /// value is past the limit on size, 4,194,304. `map` may be of any kind.
 pub fn map_get(alloc: Global, map: &Value, keys: &Value) -> Result<Value, Raise>
-    ensures { Gives result (map_get (plain map.now) (plain keys.now)) }
+    ensures { IsAnswerOf result (map_get (plain map.now) (plain keys.now)) }
 {
     match keys {
         Value::Text(key) => found(alloc, at_key(Some(map), key.as_str())),
@@ -27,7 +27,7 @@ pub fn map_get(alloc: Global, map: &Value, keys: &Value) -> Result<Value, Raise>
 
 /// The value at each key in turn.
 fn at_all(alloc: Global, map: &Value, keys: &[Value]) -> Result<Value, Raise>
-    ensures { Gives result (follow_all (plain map.now)
+    ensures { IsAnswerOf result (follow_all (plain map.now)
         (texts_in (items_of (plain_items keys.now)))) }
 {
     let mut value = Some(map);
@@ -52,7 +52,7 @@ fn at_key<'a>(value: Option<&'a Value>, key: &str) -> Option<&'a Value>
 
 /// The value, or null for none, if it keeps within the limit on size.
 fn found(alloc: Global, value: Option<&Value>) -> Result<Value, Raise>
-    ensures { Gives result (sized (or_null value.entry)) }
+    ensures { IsAnswerOf result (sized (or_null value.entry)) }
 {
     let Some(value) = value else {
         return sized(Value::Null);

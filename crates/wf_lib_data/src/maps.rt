@@ -1,12 +1,11 @@
 // Maps without a key.
-ghost use Rattle.wf_lib_data.specs.Gives.{Gives};
+ghost use Rattle.wf_value.specs.Answers.{IsAnswerOf};
 ghost use Rattle.wf_value.specs.LibData.{map_delete};
 ghost use Rattle.wf_value.specs.Data.{text};
 ghost use Rattle.wf_value.specs.Plain.{plain};
 
-use crate::answers::sized;
 use std::alloc::Global;
-use wf_value::{Raise, Tag, Value};
+use wf_value::{Raise, Tag, Value, sized};
 
 /// `map.delete`: the map without a key.
 ///
@@ -14,7 +13,7 @@ use wf_value::{Raise, Tag, Value};
 /// ResourceLimitError where the answer is past the limit on size, 4,194,304. The map is copied,
 /// its values are shared.
 pub fn map_delete(alloc: Global, map: &Value, key: &Value) -> Result<Value, Raise>
-    ensures { Gives result (map_delete (plain map.now) (plain key.now)) }
+    ensures { IsAnswerOf result (map_delete (plain map.now) (plain key.now)) }
 {
     match key {
         Value::Text(key) => without(alloc, map, key.as_str()),
@@ -23,7 +22,7 @@ pub fn map_delete(alloc: Global, map: &Value, key: &Value) -> Result<Value, Rais
 }
 
 fn without(alloc: Global, map: &Value, key: &str) -> Result<Value, Raise>
-    ensures { Gives result (map_delete (plain map.now) (text key.now)) }
+    ensures { IsAnswerOf result (map_delete (plain map.now) (text key.now)) }
 {
     let mut rest = map.copy(alloc)?;
     match &mut rest {

@@ -1,15 +1,14 @@
 // Two maps as one.
 ghost use Rattle.std.specs.Prelude.{◌≡◌, IfOk, OnOk, suc};
-ghost use Rattle.wf_lib_data.specs.Gives.{Gives};
+ghost use Rattle.wf_value.specs.Answers.{IsAnswerOf};
 ghost use Rattle.wf_value.specs.LibData.{map_merge, merged};
 ghost use Rattle.wf_value.specs.Data.{pairs_of};
 ghost use Rattle.wf_value.specs.Maps.{IsInOrder, with_value};
 ghost use Rattle.wf_value.specs.Plain.{plain};
 
-use crate::answers::sized;
 use std::alloc::Global;
 use std::cmp::Ordering;
-use wf_value::{Map, OutOfMemory, Raise, Tag, Text, Value};
+use wf_value::{Map, OutOfMemory, Raise, Tag, Text, Value, sized};
 
 /// `map.merge`: the map of the pairs of two maps. Of a key in both the second's value stands.
 ///
@@ -17,7 +16,7 @@ use wf_value::{Map, OutOfMemory, Raise, Tag, Text, Value};
 /// the limit on size, 4,194,304. The values are shared. Its time is that of going through both
 /// maps, with a search in the answer for each pair.
 pub fn map_merge(alloc: Global, first: &Value, second: &Value) -> Result<Value, Raise>
-    ensures { Gives result (map_merge (plain first.now) (plain second.now)) }
+    ensures { IsAnswerOf result (map_merge (plain first.now) (plain second.now)) }
 {
     match (first, second) {
         (Value::Map(first), Value::Map(second)) => {

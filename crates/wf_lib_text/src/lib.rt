@@ -1,7 +1,6 @@
 //! The functions `text.*` of the language's library. Positions in texts count characters.
 #![tactic(auto)]
 
-mod answers;
 mod bytes;
 mod letters;
 mod places;

@@ -1,13 +1,12 @@
 // Where a part stands in a text.
 ghost use Rattle.std.specs.Prelude.{◌≡◌, ◌+◌, ◌<◌, IfOk, chars, length, pos};
-ghost use Rattle.wf_lib_text.specs.Gives.{Gives};
+ghost use Rattle.wf_value.specs.Answers.{IsAnswerOf};
 ghost use Rattle.wf_value.specs.LibText.{pieces, starts_of, text_find_all};
 ghost use Rattle.wf_value.specs.Data.{integer, text};
 ghost use Rattle.wf_value.specs.Plain.{plain};
 
-use crate::answers::sized;
 use std::alloc::Global;
-use wf_value::{List, OutOfMemory, Raise, Tag, Value};
+use wf_value::{List, OutOfMemory, Raise, Tag, Value, sized};
 
 /// `text.find_all`: the list of the places at which a part begins, in characters from 0 on. They
 /// are taken from the left, and no two parts overlap.
@@ -15,7 +14,7 @@ use wf_value::{List, OutOfMemory, Raise, Tag, Value};
 /// A TypeError where an argument is no text; a ValueError where `part` is empty; a
 /// ResourceLimitError where the list is past the limit on size, 4,194,304.
 pub fn text_find_all(alloc: Global, source: &Value, part: &Value) -> Result<Value, Raise>
-    ensures { Gives result (text_find_all (plain source.now) (plain part.now)) }
+    ensures { IsAnswerOf result (text_find_all (plain source.now) (plain part.now)) }
 {
     match (source, part) {
         (Value::Text(s), Value::Text(part)) => find(alloc, s.as_str(), part.as_str()),
@@ -24,7 +23,7 @@ pub fn text_find_all(alloc: Global, source: &Value, part: &Value) -> Result<Valu
 }
 
 fn find(alloc: Global, s: &str, part: &str) -> Result<Value, Raise>
-    ensures { Gives result (text_find_all (text s.now) (text part.now)) }
+    ensures { IsAnswerOf result (text_find_all (text s.now) (text part.now)) }
 {
     if part.is_empty() {
         return Err(Raise::Error(Tag::ValueError));

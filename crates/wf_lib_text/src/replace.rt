@@ -1,17 +1,17 @@
 // A text with others in place of its parts.
 ghost use Rattle.std.specs.Prelude.{◌≡◌, ◌++◌, ◌<◌, IfErr, OnOk, length, string_bytes};
-ghost use Rattle.wf_lib_text.specs.Gives.{Gives, IsPast};
+ghost use Rattle.wf_lib_text.specs.Long.{IsPast};
+ghost use Rattle.wf_value.specs.Answers.{IsAnswerOf};
 ghost use Rattle.wf_value.specs.LibText.{joined_by, pieces, text_replace_all};
 ghost use Rattle.wf_value.specs.Data.{text};
 ghost use Rattle.wf_value.specs.Errors.{sized};
 ghost use Rattle.wf_value.specs.Plain.{plain};
 
-use crate::answers::sized_text;
 use std::alloc::Global;
-use wf_value::{Raise, Tag, Value};
+use wf_value::{MAX_SIZE, Raise, Tag, Value, sized_text};
 
 /// The most bytes of a text that is an answer: it counts for two more.
-const MAX_LENGTH: usize = 4_194_302;
+const MAX_LENGTH: usize = MAX_SIZE as usize - 2;
 
 /// `text.replace_all`: the text with another one in each place of a part. The places are taken
 /// from the left, and none overlap.
@@ -25,7 +25,7 @@ pub fn text_replace_all(
     part: &Value,
     other: &Value,
 ) -> Result<Value, Raise>
-    ensures { Gives result (text_replace_all (plain source.now) (plain part.now)
+    ensures { IsAnswerOf result (text_replace_all (plain source.now) (plain part.now)
         (plain other.now)) }
 {
     match (source, part, other) {
@@ -37,7 +37,7 @@ pub fn text_replace_all(
 }
 
 fn replace(alloc: Global, s: &str, part: &str, other: &str) -> Result<Value, Raise>
-    ensures { Gives result (text_replace_all (text s.now) (text part.now) (text other.now)) }
+    ensures { IsAnswerOf result (text_replace_all (text s.now) (text part.now) (text other.now)) }
 {
     if part.is_empty() {
         return Err(Raise::Error(Tag::ValueError));
@@ -47,7 +47,7 @@ fn replace(alloc: Global, s: &str, part: &str, other: &str) -> Result<Value, Rai
 
 fn replaced(alloc: Global, s: &str, part: &str, other: &str) -> Result<Value, Raise>
     requires { 0 < length part.now }
-    ensures { Gives result (sized (text (joined_by other.now (pieces part.now s.now)))) }
+    ensures { IsAnswerOf result (sized (text (joined_by other.now (pieces part.now s.now)))) }
 {
     let mut out = String::new(alloc);
     let mut rest = s;

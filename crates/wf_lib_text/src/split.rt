@@ -1,13 +1,12 @@
 // A text cut at a separator.
 ghost use Rattle.std.specs.Prelude.{◌≡◌, ◌<◌, IfOk, length, map};
-ghost use Rattle.wf_lib_text.specs.Gives.{Gives};
+ghost use Rattle.wf_value.specs.Answers.{IsAnswerOf};
 ghost use Rattle.wf_value.specs.LibText.{pieces, text_split};
 ghost use Rattle.wf_value.specs.Data.{text};
 ghost use Rattle.wf_value.specs.Plain.{plain};
 
-use crate::answers::sized;
 use std::alloc::Global;
-use wf_value::{List, OutOfMemory, Raise, Tag, Text, Value};
+use wf_value::{List, OutOfMemory, Raise, Tag, Text, Value, sized};
 
 /// `text.split`: the list of the parts between the places of a separator, empty ones too. The
 /// places are taken from the left, and none overlap.
@@ -15,7 +14,7 @@ use wf_value::{List, OutOfMemory, Raise, Tag, Text, Value};
 /// A TypeError where an argument is no text; a ValueError where `separator` is empty; a
 /// ResourceLimitError where the list is past the limit on size, 4,194,304.
 pub fn text_split(alloc: Global, source: &Value, separator: &Value) -> Result<Value, Raise>
-    ensures { Gives result (text_split (plain source.now) (plain separator.now)) }
+    ensures { IsAnswerOf result (text_split (plain source.now) (plain separator.now)) }
 {
     match (source, separator) {
         (Value::Text(s), Value::Text(separator)) => split(alloc, s.as_str(), separator.as_str()),
@@ -24,7 +23,7 @@ pub fn text_split(alloc: Global, source: &Value, separator: &Value) -> Result<Va
 }
 
 fn split(alloc: Global, s: &str, separator: &str) -> Result<Value, Raise>
-    ensures { Gives result (text_split (text s.now) (text separator.now)) }
+    ensures { IsAnswerOf result (text_split (text s.now) (text separator.now)) }
 {
     if separator.is_empty() {
         return Err(Raise::Error(Tag::ValueError));

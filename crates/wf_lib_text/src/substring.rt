@@ -1,14 +1,13 @@
 // A part of a text, by its places.
 ghost use Rattle.std.specs.Prelude.{◌≡◌, ◌≤◌, IfOk, MatchOption, chars, encode_utf8_all, false, slice_range, string_bytes, true, unsigned_abs};
-ghost use Rattle.wf_lib_text.specs.Gives.{Gives};
+ghost use Rattle.wf_value.specs.Answers.{IsAnswerOf};
 ghost use Rattle.wf_value.specs.LibText.{is_range_in, text_substring};
 ghost use Rattle.wf_value.specs.Data.{integer, text};
 ghost use Rattle.wf_value.specs.Plain.{plain};
 
-use crate::answers::sized_text;
 use crate::places::char_count;
 use std::alloc::{AllocError, Global};
-use wf_value::{Raise, Tag, Value};
+use wf_value::{Raise, Tag, Value, sized_text};
 
 /// `text.substring`: the characters from `start` up to before `end`, which count from 0 on.
 ///
@@ -21,7 +20,8 @@ pub fn text_substring(
     start: &Value,
     end: &Value,
 ) -> Result<Value, Raise>
-    ensures { Gives result (text_substring (plain source.now) (plain start.now) (plain end.now)) }
+    ensures { IsAnswerOf result
+        (text_substring (plain source.now) (plain start.now) (plain end.now)) }
 {
     match (source, start, end) {
         (Value::Text(s), Value::Int(start), Value::Int(end)) => {
@@ -32,7 +32,7 @@ pub fn text_substring(
 }
 
 fn substring(alloc: Global, s: &str, start: i64, end: i64) -> Result<Value, Raise>
-    ensures { Gives result (text_substring (text s.now) (integer start) (integer end)) }
+    ensures { IsAnswerOf result (text_substring (text s.now) (integer start) (integer end)) }
 {
     let Some((from, to)) = range_in(char_count(s), start, end) else {
         return Err(Raise::Error(Tag::IndexError));

@@ -1,17 +1,16 @@
 // Escapes of URLs.
 ghost use Rattle.std.specs.Prelude.{◌≡◌, IfOk, string_bytes};
 ghost use Rattle.percent_encoding.specs.Percent.{percent_decode};
-ghost use Rattle.wf_lib_text.specs.Gives.{Gives};
+ghost use Rattle.wf_value.specs.Answers.{IsAnswerOf};
 ghost use Rattle.wf_value.specs.LibText.{text_url_decode, text_url_encode, url_encoded};
 ghost use Rattle.wf_value.specs.Plain.{plain};
 
-use crate::answers::sized_text;
 use crate::bytes::decoded;
 use percent_encoding::{
     AsciiSet, NON_ALPHANUMERIC, ascii_set, percent_decode_str, utf8_percent_encode,
 };
 use std::alloc::{AllocError, Global};
-use wf_value::{Raise, Tag, Value};
+use wf_value::{Raise, Tag, Value, sized_text};
 
 /// The ASCII bytes that are escaped: all but letters, digits, `-`, `.`, `_` and `~`.
 pub const ESCAPED: AsciiSet = ascii_set!(
@@ -28,7 +27,7 @@ pub const ESCAPED: AsciiSet = ascii_set!(
 /// A TypeError where `source` is no text; a ResourceLimitError where the answer is past the limit
 /// on size, 4,194,304.
 pub fn text_url_encode(alloc: Global, source: &Value) -> Result<Value, Raise>
-    ensures { Gives result (text_url_encode (plain source.now)) }
+    ensures { IsAnswerOf result (text_url_encode (plain source.now)) }
 {
     match source {
         Value::Text(s) => {
@@ -45,7 +44,7 @@ pub fn text_url_encode(alloc: Global, source: &Value) -> Result<Value, Raise>
 /// A TypeError where `source` is no text; a ValueError where the bytes are no UTF-8 (RFC 3629); a
 /// ResourceLimitError where the answer is past the limit on size, 4,194,304.
 pub fn text_url_decode(alloc: Global, source: &Value) -> Result<Value, Raise>
-    ensures { Gives result (text_url_decode (plain source.now)) }
+    ensures { IsAnswerOf result (text_url_decode (plain source.now)) }
 {
     match source {
         Value::Text(s) => {

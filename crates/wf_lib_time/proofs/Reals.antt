@@ -65,11 +65,11 @@ pub unreal : (y mo d h mi s : ℕ) → y ≤ 9999 → ¬ (IsReal y mo d h mi s) 
 unreal y mo d h mi s small not = false_from_ne_true (is_real y mo d h mi s) (λ is. not (real_from y mo d h mi s small is))
 
 -- what the numbers of a text tell
-abbrev pub Tells : Option ℤ → Bool → ℤ → Type 0
-Tells r t z = MatchOption r (t ≡ false) (λ n. (t ≡ true) × (n ≡ z))
+abbrev pub HasWhere : Option ℤ → Bool → ℤ → Type 0
+HasWhere r t z = MatchOption r (t ≡ false) (λ n. (t ≡ true) × (n ≡ z))
 
-pub tells_civil : (s : Text) (y mo d h mi sec : ℕ) (r : Option ℤ) → has_form (codes "dddd-dd-ddTdd:dd:dd") s ≡ true → y ≡ number_at 0 4 s → mo ≡ number_at 5 7 s → d ≡ number_at 8 10 s → h ≡ number_at 11 13 s → mi ≡ number_at 14 16 s → sec ≡ number_at 17 19 s → Tells r (is_real y mo d h mi sec) (date_seconds y mo d h mi sec) → Tells r (is_civil s) (civil_seconds s)
+pub tells_civil : (s : Text) (y mo d h mi sec : ℕ) (r : Option ℤ) → has_form (codes "dddd-dd-ddTdd:dd:dd") s ≡ true → y ≡ number_at 0 4 s → mo ≡ number_at 5 7 s → d ≡ number_at 8 10 s → h ≡ number_at 11 13 s → mi ≡ number_at 14 16 s → sec ≡ number_at 17 19 s → HasWhere r (is_real y mo d h mi sec) (date_seconds y mo d h mi sec) → HasWhere r (is_civil s) (civil_seconds s)
 tells_civil s y mo d h mi sec r form ey emo ed eh emi es told =
     let test : is_real y mo d h mi sec ≡ is_civil s = (λ i. is_real (ey i) (emo i) (ed i) (eh i) (emi i) (es i)) ∙ sym (is_civil_of s form) in
     let value : date_seconds y mo d h mi sec ≡ civil_seconds s = (λ i. date_seconds (ey i) (emo i) (ed i) (eh i) (emi i) (es i)) in
-    subst (λ (z : ℤ). Tells r (is_civil s) z) value (subst (λ (t : Bool). Tells r t (date_seconds y mo d h mi sec)) test told)
+    subst (λ (z : ℤ). HasWhere r (is_civil s) z) value (subst (λ (t : Bool). HasWhere r t (date_seconds y mo d h mi sec)) test told)

@@ -1,7 +1,7 @@
 // The text of a moment.
 ghost use Rattle.std.specs.Prelude.{◌≡◌, ◌*ℤ◌, ◌↔◌, IfOk, IsTrue, pos};
 ghost use Rattle.jiff.specs.Words.{civil_nanos};
-ghost use Rattle.wf_lib_time.specs.Gives.{Gives};
+ghost use Rattle.wf_value.specs.Answers.{IsAnswerOf};
 ghost use Rattle.wf_lib_time.specs.Moments.{IsInTime, stamp_text};
 ghost use Rattle.wf_value.specs.LibTime.{time_format};
 ghost use Rattle.wf_value.specs.Data.{integer};
@@ -21,7 +21,7 @@ const LAST_SECOND: i64 = 253_370_764_799;
 /// A TypeError where `seconds` is no whole number; a ValueError unless it lies from 0 to
 /// 253,370,764,799, the last second of the year 9998.
 pub fn time_format(alloc: Global, seconds: &Value) -> Result<Value, Raise>
-    ensures { Gives result (time_format (plain seconds.now)) }
+    ensures { IsAnswerOf result (time_format (plain seconds.now)) }
 {
     match seconds {
         Value::Int(seconds) => written(alloc, *seconds),
@@ -30,7 +30,7 @@ pub fn time_format(alloc: Global, seconds: &Value) -> Result<Value, Raise>
 }
 
 fn written(alloc: Global, seconds: i64) -> Result<Value, Raise>
-    ensures { Gives result (time_format (integer seconds)) }
+    ensures { IsAnswerOf result (time_format (integer seconds)) }
 {
     if is_in_time(seconds) {
         Ok(Value::Text(stamp(alloc, seconds)?))

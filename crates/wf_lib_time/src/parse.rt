@@ -1,6 +1,6 @@
 // The moment that a text tells.
 ghost use Rattle.std.specs.Prelude.{◌≡◌, ◌-ℤ◌, option_map, pos};
-ghost use Rattle.wf_lib_time.specs.Gives.{Gives};
+ghost use Rattle.wf_value.specs.Answers.{IsAnswerOf};
 ghost use Rattle.wf_lib_time.specs.Moments.{IsShort};
 ghost use Rattle.wf_value.specs.LibTime.{parsed_time, second_in_range, time_parse};
 ghost use Rattle.wf_value.specs.Data.{text};
@@ -20,7 +20,7 @@ use wf_value::{Raise, Tag, Value};
 /// not one of the calendar, the hours are past 23, the minutes or seconds past 59, or the moment
 /// lies outside the range of `time.format`.
 pub fn time_parse(_alloc: Global, value: &Value) -> Result<Value, Raise>
-    ensures { Gives result (time_parse (plain value.now)) }
+    ensures { IsAnswerOf result (time_parse (plain value.now)) }
 {
     match value {
         Value::Text(text) => moment(text.as_str()),
@@ -29,7 +29,7 @@ pub fn time_parse(_alloc: Global, value: &Value) -> Result<Value, Raise>
 }
 
 fn moment(s: &str) -> Result<Value, Raise>
-    ensures { Gives result (time_parse (text s.now)) }
+    ensures { IsAnswerOf result (time_parse (text s.now)) }
 {
     match parsed(s.as_bytes()) {
         Some(seconds) => Ok(Value::Int(seconds)),

@@ -1,11 +1,11 @@
 -- What is printed over a life, and that a moment of a command is a stay of one.
 use Rattle.std.specs.Prelude.{◌≡◌, ◌≢◌, ◌⊎◌, ℕ, List, [], Some, None}
 use Rattle.std.proofs.Common.{inl, inr, refl, sym, ◌∙◌, ap, subst}
-use Rattle.wf_deeds.specs.Deeds.{printed}
+use Rattle.wf_host.specs.Printing.{printed}
 use Rattle.wf_deeds.specs.Outside.{Outside}
 use Rattle.wf_lives.proofs.LivesKept.{stay_at}
 use Rattle.wf_lives.specs.Lives.{PairsAreStays, PrintsByACause, PrintsOneLine, PrintsOther, PrintsOutcome, OneLine, Stay, IsStay, stay_scene}
-use Rattle.wf_engine.specs.Printed.{Reports, Gives, bad_line, bad_argument, refused, not_a_journal, already_started, not_started, not_a_history, suspended, ended, done, told, status_of, outcome_text}
+use Rattle.wf_engine.specs.Printed.{Reports, MayPrint, bad_line, bad_argument, refused, not_a_journal, already_started, not_started, not_a_history, suspended, ended, done, told, status_of, outcome_text}
 use Rattle.wf_engine.specs.Safe.{IsPrefix, PrintedIsOutcome}
 use Rattle.wf_host.specs.World.{World}
 use Rattle.wf_model.specs.Config.{Outcome, Active}
@@ -23,7 +23,7 @@ has_ended : (o : Outcome) (st : Status) → status_of o ≡ Some st → o ≢ Ac
 has_ended o st is = λ active. let no : None ≡ Some st = ap status_of (sym active) ∙ is in cc no
 
 module _ (L : Language) (R : Reports) (x : Stay) where
-  by_cause : (st : Status) (text : List ℕ) → Gives L R (stay_scene x) x.left x.deeds st text → IsPrefix (printed x.deeds) text → PrintsOutcome L R x ⊎ PrintsOther L R x
+  by_cause : (st : Status) (text : List ℕ) → MayPrint L R (stay_scene x) x.left x.deeds st text → IsPrefix (printed x.deeds) text → PrintsOutcome L R x ⊎ PrintsOther L R x
   by_cause st text (bad_line n is) front = inr (_, _, bad_line n is, front, inl refl)
   by_cause st text (bad_argument is) front = inr (_, _, bad_argument is, front, inl refl)
   by_cause st text (refused r is) front = inr (_, _, refused r is, front, inl refl)

@@ -3,10 +3,10 @@
 --     PairsAreStays  what a moment of a command leaves is a stay of a life
 --     OneRequest, ClosedIsNotStarted, RecordsStay, OneLine, PrintsByACause, PrintsOneLine     what holds over all commands of a life
 use Rattle.std.specs.Prelude.{◌≡◌, ◌≢◌, ◌⊎◌, ◌≤◌, ℕ, List, [], ◌∷◌, ◌++◌, length, Contains, Option, Some, Ok}
-use Rattle.wf_deeds.specs.Deeds.{printed}
+use Rattle.wf_host.specs.Printing.{printed}
 use Rattle.wf_deeds.specs.Kept.{IsOpen}
 use Rattle.wf_deeds.specs.Outside.{Outside}
-use Rattle.wf_engine.specs.Printed.{Scene, Reports, Reported, TellsHistory, Gives, HasOutcome, outcome_text}
+use Rattle.wf_engine.specs.Printed.{Scene, Reports, Reported, TellsHistory, MayPrint, HasOutcome, outcome_text}
 use Rattle.wf_engine.specs.Safe.{Safe, SafeAt, IsFit, IsPrefix, scene}
 use Rattle.wf_host.specs.Source.{Rest}
 use Rattle.wf_host.specs.World.{World, Only}
@@ -66,7 +66,7 @@ PrintsOutcome L R x = (text : List ℕ) × IsOutcomeText L R x text × IsPrefix 
 
 -- or a front of another text that has its cause: that of a status, the report of a command that uses no journal, or what is told of a history
 abbrev pub PrintsOther : Language → Reports → Stay → Type 0
-PrintsOther L R x = (st : Status) × (text : List ℕ) × Gives L R (stay_scene x) x.left x.deeds st text × IsPrefix (printed x.deeds) text
+PrintsOther L R x = (st : Status) × (text : List ℕ) × MayPrint L R (stay_scene x) x.left x.deeds st text × IsPrefix (printed x.deeds) text
     × ((status_text st ≡ Some text) ⊎ Reported R (stay_scene x) text ⊎ TellsHistory L R (stay_scene x) text)
 
 -- ## What holds over all commands of a life

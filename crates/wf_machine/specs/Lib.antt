@@ -13,3 +13,4 @@ pub mod Promises
 pub mod Runs
 pub mod Seen
 pub mod State
+pub mod Names

@@ -1,8 +1,8 @@
 -- Where `main` stands, by its frames, the store of its layers and what it waits for.
 --     around        what stands around it
 --     config_of     the configuration
---     IsStanding    its frames and layers fit the program's table, and it has something to do or waits
-use Rattle.std.specs.Prelude.{◌≡◌, ℕ, true, false, List, [], ◌∷◌, ◌++◌, None, Some, Option, is_some, option_map, slice_get}
+--     IsStanding    its frames and layers fit the program's table, and it has something to do or waits, in no parallel step
+use Rattle.std.specs.Prelude.{◌≡◌, ℕ, Bool, true, false, List, [], ◌∷◌, ◌++◌, None, Some, Option, is_some, option_map, slice_get}
 use Rattle.std.specs.Coded.{Coded-set, codes, coded_bool, ×_prop, Unit-prop, Π_prop, →_prop}
 use Rattle.wf_ast.specs.Flows.{flow}
 use Rattle.wf_ast.specs.Func.{SpecialListing, SysLog, func_named, special_named}
@@ -25,10 +25,10 @@ use Rattle.wf_machine.specs.declared.machine.Tally.{Tally}
 use Rattle.wf_alone.specs.Machine.{Rest, config_by, main_task}
 use Rattle.wf_model.specs.Calls.{http_method}
 use Rattle.wf_model.specs.Config as model
-use Rattle.wf_model.specs.Config.{Active, Call, Config, Do, LogEntry, Open, Outcome, Raised, Returned, limits}
+use Rattle.wf_model.specs.Config.{Active, Call, Config, Do, Item, LogEntry, Open, Outcome, Raised, Returned, limits}
 use Rattle.wf_model.specs.Local.{Local, settle}
 use Rattle.wf_model.specs.Run.{main_local, main_steps}
-use Rattle.wf_moves.specs.Waits.{CanGoOn, CanGoOn-prop, is_awake_in, task_local, wait_view}
+use Rattle.wf_moves.specs.Waits.{CanGoOn, CanGoOn-prop, control_in, is_awake_in, is_joining, task_local, wait_view}
 use Rattle.wf_moves.specs.declared.finish.End.{End}
 use Rattle.wf_moves.specs.declared.finish.End.TheVariants as end
 use Rattle.wf_moves.specs.declared.logging.Behind.{Behind}
@@ -56,7 +56,7 @@ use Rattle.wf_frames.specs.declared.target.Target.TheVariants as target
 
 -- the workflows of its program and their parts, no layer outside, and the limit of the first rules
 abbrev pub around : Program → Around
-around p = record { flows = p.flows; spots = spots p.flows; keys = []; limit = (limits 1).variables; others = 0 }
+around p = record { flows = p.flows; spots = spots p.flows; keys = []; limit = (limits 1).variables; rest = []; others = 0 }
 
 -- what each call names stands at the call's own number, and the workflow of each predicate at that of its `try`
 abbrev pub Aims : Program → List Node → List Target → Type 0
@@ -127,8 +127,12 @@ pub record Says (fs : List Flow) (ns : List Spot) (x : Node) (t : Target) : Type
 abbrev pub rest_of : Facts → Tally → List Call → List LogEntry → Rest
 rest_of f y calls log = record { facts = facts_view f; last = y.last; calls = calls; log = log; moves = y.moves; bodies = y.bodies }
 
+-- what a task has still to do
+abbrev pub task_control : Program → Task → List Item
+task_control p t = control_in (spots p.flows) t.wait (control_of (around p) t.frames)
+
 abbrev pub task_view : Program → Task → Scopes → model.Task
-task_view p t x = main_task (control_of (around p) t.frames) (own_layers (own_of t.frames) (layers_of x)) (wait_view (around p) t.wait)
+task_view p t x = main_task (task_control p t) (own_layers (own_of t.frames) (layers_of x)) (wait_view (around p) t.wait)
 
 abbrev pub tasks_view : Program → Option Task → Scopes → List (ℕ × model.Task)
 tasks_view p None x = []
@@ -140,11 +144,11 @@ config_of p f y t x calls log e = config_by (rest_of f y calls (entries_of log))
 -- ## Where it stands
 abbrev pub IsStanding : Program → List Node → Option Task → Scopes → Type 0
 IsStanding p nodes None x = Unit {0}
-IsStanding p nodes (Some t) x = Standing (around p) nodes t.frames x × CanGoOn nodes t
+IsStanding p nodes (Some t) x = Standing (around p) nodes t.frames x × (CanGoOn nodes t × (is_joining t.wait ≡ false))
 
 pub IsStanding-prop : (p : Program) (nodes : List Node) (t : Option Task) (x : Scopes) → IsProp (IsStanding p nodes t x)
 IsStanding-prop p nodes None x = Unit-prop
-IsStanding-prop p nodes (Some t) x = ×_prop (Standing-prop _ _ _ _) (CanGoOn-prop nodes t)
+IsStanding-prop p nodes (Some t) x = ×_prop (Standing-prop _ _ _ _) (×_prop (CanGoOn-prop nodes t) (Coded-set coded_bool _ _))
 
 -- ## Where it begins, and what it leaves
 -- before the steps of `main`, settled
@@ -169,6 +173,12 @@ outcome_behind None = Active
 outcome_behind (Some (told.Ended e)) = outcome_at e
 outcome_behind (Some (told.Sent x)) = Active
 outcome_behind (Some (told.Logged x w)) = outcome_then w
+outcome_behind (Some (told.Forked f)) = Active
+
+-- whether it stands in a parallel step then
+abbrev pub is_forked : Option Told → Bool
+is_forked (Some (told.Forked f)) = true
+is_forked m = false
 
 abbrev pub calls_behind : Option Told → List Call → List Call
 calls_behind (Some (told.Sent x)) calls = calls ++ Open 0 (request_view x.value.request) x.value.due ∷ []

@@ -1,5 +1,6 @@
 -- Moves that follow one another.
 --     AreMoves, AppliesMoves     so many moves, as events and as steps
+--     NoMoreMoves                none of them comes next
 --     IsOut ..                   a machine while its `main` is out of it, for a run of moves
 use Rattle.std.specs.Prelude.{◌≡◌, ◌≤◌, ◌<◌, ◌+◌, ℕ, zero, suc, Bool, true, false, None, Some, length}
 use Rattle.wf_alone.specs.Machine.{IsReached}
@@ -40,6 +41,10 @@ pub record AppliesMoves (before behind : State) (reading count old new : ℕ) : 
   pub whole : behind.broken ≡ false
   pub steps : new ≡ old + count
 
+-- while one task lives, no move that reads no clock comes next at a reading, or it is the one at which the limit on counted events is reached
+abbrev pub NoMoreMoves : State → ℕ → Type 0
+NoMoreMoves s reading = length s.config.tasks ≡ 1 → choose s.program s.config reading ≡ Some (Move 0) → 100000 ≤ s.config.moves + 1
+
 -- ## While `main` is out
 -- what a machine shows with this task in its place
 abbrev pub shown : Machine → Task → Config
@@ -61,6 +66,7 @@ pub record IsOut (m : Machine) (t : Task) : Type 0 where
   pub below : m.tally.moves < 100000
   pub now : m.facts.of_step.now ≡ 0
   pub last : m.facts.of_step.last ≡ m.tally.last
+  pub deeper : m.facts.of_step.deeper ≡ true
   pub calls : m.facts.sending.calls ≡ length m.calls
   pub logged : m.facts.sending.logged ≡ log_total (entries_of m.log)
 

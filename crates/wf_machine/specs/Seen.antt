@@ -6,14 +6,14 @@ use Rattle.std.specs.Prelude.{◌≡◌, ◌≤◌, ◌⊎◌, ℕ, true, false,
 use Rattle.wf_alone.specs.Machine.{Rest}
 use Rattle.wf_alone.specs.Waiting.{due_for}
 use Rattle.wf_check.specs.Seen.{program_of}
-use Rattle.wf_frames.specs.Owned.{control_of, own_of}
+use Rattle.wf_frames.specs.Owned.{own_of}
 use Rattle.wf_machine.specs.Entries.{entries_of}
-use Rattle.wf_machine.specs.Main.{around, config_of, rest_of}
+use Rattle.wf_machine.specs.Main.{around, config_of, rest_of, task_control}
 use Rattle.wf_machine.specs.State.{State}
 use Rattle.wf_machine.specs.declared.ending.Ending.TheVariants.{Running}
 use Rattle.wf_machine.specs.declared.machine.Machine.{Machine}
 use Rattle.wf_model.specs.Config.{Item, Layer, Wait}
-use Rattle.wf_model.specs.Kinds.{NextKind, Plainly, ByClock, ByCall, next_kind}
+use Rattle.wf_model.specs.Kinds.{NextKind, next_kind}
 use Rattle.wf_model.specs.Ready.{is_by}
 use Rattle.wf_moves.specs.Waits.{call_in, is_awake_in, wait_view}
 use Rattle.wf_moves.specs.declared.task.Task.{Task}
@@ -35,7 +35,7 @@ rest_by m = rest_of m.facts m.tally m.calls (entries_of m.log)
 -- ## Of a task of it
 -- what it has still to do
 abbrev pub control_by : Machine → Task → List Item
-control_by m t = control_of (around (program_of m.program)) t.frames
+control_by m t = task_control (program_of m.program) t
 
 -- its layers
 abbrev pub layers_by : Machine → Task → List Layer
@@ -74,9 +74,3 @@ pub record DuesBy (m : Machine) (o : Option ℕ) (reading : ℕ) : Type 0 where
 -- it waits for nothing that is
 abbrev pub DuesNot : Machine → ℕ → Type 0
 DuesNot m reading = (t : Task) → m.task ≡ Some t → m.ending ≡ Running → is_by reading (due_for (rest_by m) (wait_by m t)) ≡ false
-
--- the last reading behind a step
-abbrev pub last_by : NextKind → ℕ → ℕ → ℕ
-last_by Plainly reading last = last
-last_by ByClock reading last = reading
-last_by ByCall reading last = reading

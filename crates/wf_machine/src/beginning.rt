@@ -6,7 +6,7 @@ ghost use Rattle.wf_check.specs.Seen.{nodes_of, program_of};
 ghost use Rattle.wf_events.specs.View.{start_view};
 ghost use Rattle.wf_machine.specs.Facts.{facts_of, facts_view};
 ghost use Rattle.wf_machine.specs.Main.{Aims, Begins, IsStanding};
-ghost use Rattle.wf_frames.specs.Built.{AreTargets, Tells, is_table_built};
+ghost use Rattle.wf_frames.specs.Built.{AreTargets, IsTableOf, is_table_built};
 ghost use Rattle.wf_frames.specs.Kinds.{AreWants};
 ghost use Rattle.wf_model.specs.Spots.{spots};
 
@@ -40,7 +40,7 @@ pub(crate) struct Beginning {
 /// What each node of a program wants.
 fn wants_by(alloc: Global, program: &Checked, targets: &[Target]) -> Result<Vec<Wants>, OutOfMemory>
     ghost plain: { Program }
-    requires tells { Tells (spots plain.flows) (nodes_of program.now) }
+    requires tells { IsTableOf (spots plain.flows) (nodes_of program.now) }
     ensures { IfOk result (λ v. (p : Program)
         → AreTargets p.flows (spots plain.flows) (nodes_of program.now) targets.now
         → AreWants p (spots plain.flows) (nodes_of program.now) v.items) }
@@ -48,8 +48,7 @@ fn wants_by(alloc: Global, program: &Checked, targets: &[Target]) -> Result<Vec<
     wants_of(alloc, program.nodes(), targets)
 }
 
-/// What a machine begins with at a start. A form whose moves aren't built, and a call that names nothing, are answered as if there were no
-/// memory: the checker refuses them.
+/// What a machine begins with at a start. A form whose moves aren't built is answered as if there were no memory: the checker refuses it.
 pub(crate) fn beginning_of(
     alloc: Global,
     start: &Start,
@@ -70,10 +69,7 @@ pub(crate) fn beginning_of(
     if !are_built(nodes) {
         return Err(OutOfMemory);
     }
-    let found = targets_of(alloc, program)?;
-    let Some(targets) = found else {
-        return Err(OutOfMemory);
-    };
+    let targets = targets_of(alloc, program)?;
     let wants = wants_by(alloc, program, targets.as_slice())?;
     let facts = Facts::of(alloc, start)?;
     let argument = argument_of(alloc, start)?;

@@ -1,7 +1,7 @@
 // How an execution has ended.
 ghost use Rattle.std.specs.Prelude.{◌≡◌, ◌≤◌, IfOk, IfSome, OnOk, Some, false, unwrap_or};
 ghost use Rattle.wf_machine.specs.Entries.{entries_of};
-ghost use Rattle.wf_machine.specs.Main.{calls_behind, log_behind, logged_depth, outcome_at, outcome_behind};
+ghost use Rattle.wf_machine.specs.Main.{calls_behind, is_forked, log_behind, logged_depth, outcome_at, outcome_behind};
 ghost use Rattle.wf_moves.specs.Tasks.{told_in};
 ghost use Rattle.wf_machine.specs.State.{is_running, outcome_by};
 ghost use Rattle.wf_machine.specs.declared.ending.Ending.TheVariants.{Running};
@@ -58,7 +58,8 @@ fn ending_by(end: End) -> Ending
     }
 }
 
-/// How an execution has ended behind what `main` has done at a reading; none where it goes on.
+/// How an execution has ended behind what `main` has done at a reading; none where it goes on. A parallel step is answered by want of memory:
+/// the checker accepts none.
 #[inline(always)]
 pub(crate) fn ending_of(
     did: Move,
@@ -70,6 +71,7 @@ pub(crate) fn ending_of(
     ensures outcome { IfOk result (λ e. outcome_by (unwrap_or e Running)
         ≡ outcome_behind (told_in did)) }
     ensures ended { IfOk result (λ e. IfSome e (λ e. is_running e ≡ false)) }
+    ensures unforked { OnOk result (is_forked (told_in did) ≡ false) }
     ensures calls { OnOk result (calls.new ≡ calls_behind (told_in did) calls.old) }
     ensures log { OnOk result (entries_of log.new
         ≡ log_behind reading (told_in did) (entries_of log.old)) }
@@ -94,6 +96,7 @@ fn ending_behind(
     ensures outcome { IfOk result (λ e. outcome_by (unwrap_or e Running)
         ≡ outcome_behind (Some told)) }
     ensures ended { IfOk result (λ e. IfSome e (λ e. is_running e ≡ false)) }
+    ensures unforked { OnOk result (is_forked (Some told) ≡ false) }
     ensures calls { OnOk result (calls.new ≡ calls_behind (Some told) calls.old) }
     ensures log { OnOk result (entries_of log.new
         ≡ log_behind reading (Some told) (entries_of log.old)) }
@@ -112,5 +115,6 @@ fn ending_behind(
                 Behind::Ended(end) => Ok(Some(ending_by(end))),
             }
         }
+        Told::Forked(_) => Err(OutOfMemory),
     }
 }

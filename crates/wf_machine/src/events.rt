@@ -1,9 +1,9 @@
 // Events that are applied.
-ghost use Rattle.std.specs.Prelude.{◌≡◌, ◌≤◌, ◌+◌, true, false, IfNone, IfOk, IfSome, IsErrOf, OnOk, Ok, Some, option_map};
+ghost use Rattle.std.specs.Prelude.{◌≡◌, ◌<◌, ◌≤◌, ◌+◌, true, false, Err, IfNone, IfOk, IfSome, IsErrOf, OnErr, OnOk, Ok, Some, option_map};
 ghost use Rattle.wf_events.specs.View.{event_view};
 ghost use Rattle.wf_machine.specs.Applied.{Applied};
 ghost use Rattle.wf_machine.specs.Promises.{AppliesAnEvent};
-ghost use Rattle.wf_machine.specs.Runs.{AppliesMoves};
+ghost use Rattle.wf_machine.specs.Runs.{AppliesMoves, NoMoreMoves};
 ghost use Rattle.wf_machine.specs.Seen.{state_of};
 ghost use Rattle.wf_model.specs.Choose.{choose};
 ghost use Rattle.wf_value.specs.Events.{Move};
@@ -44,6 +44,7 @@ fn count<L: Ledger>(did: Result<(), ApplyFault>, steps: &mut Steps<L>) -> Result
     requires { ¬ IsErrOf did ApplyFault.NotEnabled }
     ensures done { OnOk result (did ≡ Ok tt) }
     ensures steps { OnOk result (steps.new ≡ steps.old + 1) }
+    ensures refused { OnErr result (did ≡ Err ApplyFault.OutOfMemory) }
 {
     match did {
         Ok(()) => {
@@ -71,6 +72,8 @@ impl Machine {
         ensures { AppliesAnEvent (state_of self.old) (state_of self.new) (event_view event.now)
             steps.old steps.new result }
     {
+        // a law that the proof uses
+        never_wrong();
         if self.broken {
             return Err(ApplyFault::OutOfMemory);
         }
@@ -84,7 +87,7 @@ impl Machine {
     }
 
     /// Applies the event that comes next at a reading of the clock, in milliseconds since 1970, as `choose` gives it, and gives it: that is
-    /// one step. Where none comes nothing changes. Without memory the machine is only to be let go.
+    /// one step. Where none comes nothing changes. Without memory the machine is broken.
     #[inline(always)]
     pub fn apply_next<L: Ledger>(
         &mut self,
@@ -98,6 +101,7 @@ impl Machine {
             (state_of self.new) (event_view e) steps.old steps.new (Ok tt))) }
         ensures idle { IfOk result (λ e. IfNone e
             ((state_of self.new ≡ state_of self.old) × (steps.new ≡ steps.old))) }
+        ensures broken { OnErr result ((state_of self.new).broken ≡ true) }
     {
         // laws that the proof uses
         never_wrong();
@@ -119,8 +123,9 @@ impl Machine {
     }
 
     /// Applies moves of `main` that read no clock and come next at a reading of the clock, in milliseconds since 1970, one after another, at
-    /// most so many, and gives how many it has applied; more may come than those. Each is an event `Move(0)`, and one step. Without memory
-    /// the machine is only to be let go.
+    /// most so many, and gives how many it has applied. Each is an event `Move(0)`, and one step. Where they are fewer than that, no such
+    /// move comes next while `main` is the only task, or it is the move at which the limit on counted events ends the execution; that one
+    /// is left to `apply_next`. Without memory the machine is broken.
     #[inline(always)]
     pub fn apply_moves<L: Ledger>(
         &mut self,
@@ -132,6 +137,8 @@ impl Machine {
         ensures moves { IfOk result (λ count. AppliesMoves (state_of self.old)
             (state_of self.new) reading count steps.old steps.new) }
         ensures most { IfOk result (λ count. count ≤ most) }
+        ensures goes_on { IfOk result (λ count. count < most → NoMoreMoves (state_of self.new) reading) }
+        ensures broken { OnErr result ((state_of self.new).broken ≡ true) }
     {
         let Some(mut task) = self.take_out() else {
             return Ok(0);

@@ -1,15 +1,15 @@
 // Steps that `main` takes.
-ghost use Rattle.std.specs.Prelude.{◌≡◌, ◌<◌, ◌≤◌, ℕ, true, false, IfOk, IfSome, IsFalse, IsNone, IsTrue, Ok, OnOk};
-ghost use Rattle.wf_alone.specs.Machine.{seen_by};
+ghost use Rattle.std.specs.Prelude.{◌≡◌, ◌<◌, ◌≤◌, ℕ, true, false, IfOk, IfSome, IsFalse, IsNone, IsTrue, Ok, OnErr, OnOk};
 ghost use Rattle.wf_check.specs.Seen.{program_of};
 ghost use Rattle.wf_machine.specs.Applied.{Applied};
 ghost use Rattle.wf_machine.specs.Causes.{Comes, Stops};
 ghost use Rattle.wf_machine.specs.Runs.{IsMove, IsOut, IsPlain, shown, shown_by};
 ghost use Rattle.wf_machine.specs.State.{is_running};
-ghost use Rattle.wf_machine.specs.Seen.{StepsBy, StepsNot, WantsNot, last_by, state_of};
+ghost use Rattle.wf_machine.specs.Seen.{StepsBy, StepsNot, WantsNot, state_of};
 ghost use Rattle.wf_model.specs.Choose.{wanted};
 ghost use Rattle.wf_value.specs.Events.{Event as AnyEvent};
 ghost use Rattle.wf_frames.specs.Kinds.{kind_view};
+ghost use Rattle.wf_together.specs.Steps.{last_by, seen_by};
 
 use crate::ending::{Ending, ending_of};
 use crate::events::ApplyFault;
@@ -141,6 +141,7 @@ impl Machine {
         self.broken = true;
         self.facts.of_step.now = now;
         self.facts.of_step.last = tally.last;
+        self.facts.of_step.deeper = true;
         self.facts.sending.calls = self.calls.count();
         self.facts.sending.logged = self.log.size();
         let did = go_on(
@@ -182,6 +183,7 @@ impl Machine {
         self.broken = true;
         self.facts.of_step.now = 0;
         self.facts.of_step.last = self.tally.last;
+        self.facts.of_step.deeper = true;
         self.facts.sending.calls = self.calls.count();
         self.facts.sending.logged = self.log.size();
         Some(task)
@@ -200,7 +202,7 @@ impl Machine {
     }
 
     /// `main`, which is out, takes its next move, and stays out. It gives whether `main` goes on; else the execution has ended. Without
-    /// memory the machine is only to be let go.
+    /// memory the machine stays broken.
     #[inline(always)]
     pub(crate) fn move_on(&mut self, task: &mut Task) -> Result<bool, OutOfMemory>
         requires out { IsOut self.old task.old }
@@ -210,6 +212,8 @@ impl Machine {
             (shown_by goes self.new task.new)) }
         ensures out { result ≡ Ok true → IsOut self.new task.new }
         ensures whole { result ≡ Ok false → self.new.broken ≡ false }
+        ensures ended { result ≡ Ok false → is_running self.new.ending ≡ false }
+        ensures broken { OnErr result (self.new.broken ≡ true) }
         ensures program { OnOk result
             (program_of self.new.program ≡ program_of self.old.program) }
     {

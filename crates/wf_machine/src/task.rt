@@ -4,18 +4,17 @@ ghost use Rattle.wf_ast.specs.Tree.{Program};
 ghost use Rattle.wf_check.specs.Seen.{nodes_of};
 ghost use Rattle.wf_frames.specs.Fits.{Fits};
 ghost use Rattle.wf_frames.specs.Frames.{inner};
-ghost use Rattle.wf_frames.specs.Owned.{control_of};
 ghost use Rattle.wf_frames.specs.Sights.{Sees};
 ghost use Rattle.wf_frames.specs.Stands.{Stands};
 ghost use Rattle.wf_frames.specs.Turns.{Agrees};
 ghost use Rattle.wf_machine.specs.Causes.{ReachesFor, SuitsTo, calls_by, does_by};
-ghost use Rattle.wf_machine.specs.Main.{Aims, Begins, IsStanding, around};
+ghost use Rattle.wf_machine.specs.Main.{Aims, Begins, IsStanding, around, task_control};
 ghost use Rattle.wf_model.specs.Kinds.{next_kind};
 ghost use Rattle.wf_model.specs.Local.{Scene};
 ghost use Rattle.wf_moves.specs.Tasks.{IsFirst, MovesSo, Stays};
 ghost use Rattle.wf_moves.specs.Waits.{CanGoOn, is_awake_in, result_in, task_local};
 ghost use Rattle.wf_model.specs.Spots.{spots};
-ghost use Rattle.wf_frames.specs.Built.{Tells};
+ghost use Rattle.wf_frames.specs.Built.{IsTableOf};
 ghost use Rattle.wf_frames.specs.Kinds.{AreWants, kind_view};
 ghost use Rattle.wf_value.specs.Plain as values;
 
@@ -37,7 +36,7 @@ pub(crate) fn first_task(
     scopes: &mut Scopes,
 ) -> Result<Option<Task>, OutOfMemory>
     ghost plain: { Program }
-    requires tells { Tells (spots plain.flows) (nodes_of program.now) }
+    requires tells { IsTableOf (spots plain.flows) (nodes_of program.now) }
     requires first { IsFirst (around plain) scopes.old }
     ensures begins { IfOk result (λ t. Begins plain (values.plain argument) t scopes.new) }
     ensures standing { IfOk result (λ t. IsStanding plain (nodes_of program.now) t scopes.new) }
@@ -57,13 +56,13 @@ pub(crate) fn first_task(
 #[inline(always)]
 pub(crate) fn kind_of(program: &Checked, wants: &[Wants], task: &Task) -> Kind
     ghost plain: { Program }
-    requires tells { Tells (spots plain.flows) (nodes_of program.now) }
+    requires tells { IsTableOf (spots plain.flows) (nodes_of program.now) }
     requires fits { Fits (spots plain.flows) (nodes_of program.now) (inner task.now.frames) }
     requires going { CanGoOn (nodes_of program.now) task.now }
     requires awake { is_awake_in task.now.wait ≡ true }
     ensures { (p : Program)
         → AreWants p (spots plain.flows) (nodes_of program.now) wants.now
-        → kind_view result ≡ next_kind p (control_of (around plain) task.now.frames) }
+        → kind_view result ≡ next_kind p (task_control plain task.now) }
 {
     task.next_kind(program.nodes(), wants)
 }
@@ -99,7 +98,7 @@ pub(crate) fn go_on(
     cause: Cause,
 ) -> Result<Move, OutOfMemory>
     ghost plain: { Program }
-    requires tells { Tells (spots plain.flows) (nodes_of program.now) }
+    requires tells { IsTableOf (spots plain.flows) (nodes_of program.now) }
     requires aims { Aims plain (nodes_of program.now) targets.now }
     requires stands { Stands (around plain) (nodes_of program.now) task.old.frames scopes.old }
     requires going { CanGoOn (nodes_of program.now) task.old }

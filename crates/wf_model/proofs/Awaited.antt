@@ -7,9 +7,8 @@ use Rattle.wf_lemmas.proofs.Options.{by_cases}
 use Rattle.wf_ast.specs.Tree.{Steps, LoopBody, ParallelBody, parallel, OfBranches, OfLoop, branch, no_branches, Program}
 use Rattle.wf_model.proofs.After.{Leads, led_to}
 use Rattle.wf_model.proofs.LocalWaits.{NotCalling, IsFree, Plain, goes_plain, move_plain, resumed_plain, due_plain, SendsOne, issue_issued}
-use Rattle.wf_model.proofs.Numbers.{some_case}
 use Rattle.wf_model.proofs.TaskLists.{higher, put_rises, drop_rises, known, put_same, put_other, drop_other, drop_same}
-use Rattle.wf_model.proofs.Walk.{bool_case, when_leads}
+use Rattle.wf_model.proofs.Walk.{bool_case, some_case, when_leads}
 use Rattle.wf_model.specs.Config.{Left, WorkLeft, BranchesLeft, ValuesLeft, Item, Do, Wait, Awake, Sleep, Delay, Calling, Await, Task, Call, Open, Answered, TimedOut, Outcome, Active, Returned, Raised, Cancelled, Config, After, To, Wrong, NotNow, body_limit, move_limit, task, task_in, with_task, next_of}
 use Rattle.wf_model.specs.Kinds.{NextKind, Plainly, ByClock, ByCall, next_kind}
 use Rattle.wf_model.specs.Local.{Outer, Local, Scene, End, Gives, Fails, Sends, Creates, Takes, Logs, Moved, Goes, Ends, Does, Breaks, Not, goes}
@@ -429,8 +428,8 @@ by_itself_free p b now f c g free plain =
     merged_good b t.parent (f (scene p c b t now) (local c b t)) c h (far_parent b t c h there) (plain t))
 
 -- a request
-sends_good : (b : ℕ) (t : Task) (m : Moved) (c : Config) → Except b c → task c b ≡ Some t → SendsOne (suc (length c.calls)) m → Leads Good (merged b t.parent m c)
-sends_good b t m c h there s =
+sends_good : (p : Program) (b now : ℕ) (t : Task) (m : Moved) (c : Config) → Except b c → task c b ≡ Some t → SendsOne (scene p c b t now) m → Leads Good (merged b t.parent m c)
+sends_good p b now t m c h there s =
     let e = sent b s.request s.due c in
     let goal : Good (put_back b s.local e) =
     by_cases Good (task e b) e (λ v. put_outer s.local.outer (with_task b (record v { control = s.local.control; layers = s.local.layers; wait = s.local.wait }) e))
@@ -451,7 +450,7 @@ issued_good p b now t c g there free =
     let h = except_of b u c g at free_here in
     ⊎_elim
     (λ plain. merged_good b u.parent (issue (scene p c b u now) (local c b u)) c h (far_parent b u c h at) plain)
-    (λ sends. sends_good b u (issue (scene p c b u now) (local c b u)) c h at sends)
+    (λ sends. sends_good p b now u (issue (scene p c b u now) (local c b u)) c h at sends)
     (issue_issued (scene p c b u now) (local c b u) free_here))
 
 -- an answer

@@ -108,7 +108,7 @@ run_closes p b (Wrong k) (e ∷ es) h = tt
 run_closes p b NotNow (e ∷ es) h = tt
 
 -- call n from 0 of a list
-abbrev nth : List Call → ℕ → Call
+abbrev pub nth : List Call → ℕ → Call
 nth xs n = elim (slice_get xs n) [ None ↦ Answered | Some x ↦ x ]
 
 open_was_open : (x y : Call) (q : Request) → (y ≡ x) ⊎ (request_in y ≡ None) → request_in y ≡ Some q → request_in x ≡ Some q
@@ -155,7 +155,7 @@ longer : (xs zs : List Call) → length xs ≤ length (xs ++ zs)
 longer [] zs = omega arith
 longer (x ∷ xs) zs = let le = longer xs zs in omega (arith, le)
 
-same_length : (xs : List Call) (n : ℕ) (x : Call) → length (slice_set xs n x) ≡ length xs
+pub same_length : (xs : List Call) (n : ℕ) (x : Call) → length (slice_set xs n x) ≡ length xs
 same_length [] n x = refl
 same_length (y ∷ ys) zero x = refl
 same_length (y ∷ ys) (suc n) x = ap suc (same_length ys n x)

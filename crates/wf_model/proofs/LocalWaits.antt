@@ -17,7 +17,8 @@ use Rattle.wf_model.specs.Local.{Local, Root, Main, Branch, Iteration, Scene, Se
 use Rattle.wf_model.specs.Move.{then_item, entered, assigns, chosen, in_arm, over, work, forks, join_error, joins, raised, loop_names, loop_steps, turns, performs, steps_on, moves, move, issues, issue, awake, resumed, retries, timeout_error, due_by, due}
 use Rattle.wf_model.specs.Unwind.{Judgement, Says, Asks, judged, retried, excepted, handled, called, asked_one, asks, decided, policy_of, unwind, answered, from_step, Found, Stands, AtEnd, NotFound, cut_at, to_step, to_loop, to_back, calls_in}
 use Rattle.wf_value.specs.Events.{Visitor, Method}
-use Rattle.wf_value.specs.HttpRequest.{Request, asked, request}
+use Rattle.wf_value.specs.HttpRequest as http_request
+use Rattle.wf_value.specs.HttpRequest.{Asked, Request, asked, request}
 use Rattle.wf_value.specs.HttpText.{visit_result}
 use Rattle.wf_value.specs.Data.{Data, boolean, null, Pairs}
 use Rattle.wf_value.specs.Errors.{error_map, Answer, ◌>>=◌, kept}
@@ -348,44 +349,49 @@ pub due_plain : (s : Scene) (l : Local) → Plain (due s l)
 due_plain s l = due_by_plain s l.wait l
 
 -- ## Issues
--- a request is sent under this number, and the task waits for it
-pub record SendsOne (n : ℕ) (m : Moved) : Type 0 where
+-- a request is sent that is made of what the call asks and of its number, and the task waits for it
+pub record SendsOne (s : Scene) (m : Moved) : Type 0 where
   pub request : Request
   pub due : ℕ
   pub local : Local
   pub result : Option Text
   pub is : m ≡ Does (Sends request due) (Goes local)
-  pub wait : local.wait ≡ Calling n result
+  pub wait : local.wait ≡ Calling (suc s.calls) result
+  pub asks : Asked
+  pub made : http_request.request s.facts.routes asks s.facts.id (suc s.calls) ≡ Ok request
 
-abbrev pub Issued : ℕ → Moved → Type 0
-Issued n m = Plain m ⊎ SendsOne n m
+abbrev pub Issued : Scene → Moved → Type 0
+Issued s m = Plain m ⊎ SendsOne s m
 
-on_issued : {A : Type 0} (n : ℕ) (s : Scene) (k : List Item) (l : Local) (a : Answer A) (f : A → Moved) → IsFree l → ((x : A) → Issued n (f x)) → Issued n (on s k l a f)
-on_issued n s k l (Err t) f h g = inl (unwind_plain s k l (error_map t) h)
-on_issued n s k l (Ok x) f h g = g x
+on_issued : {A : Type 0} (s : Scene) (k : List Item) (l : Local) (a : Answer A) (f : A → Moved) → IsFree l → ((x : A) → Issued s (f x)) → Issued s (on s k l a f)
+on_issued s k l (Err t) f h g = inl (unwind_plain s k l (error_map t) h)
+on_issued s k l (Ok x) f h g = g x
 
-requests_issued : (s : Scene) (f : CallBody) (m : Option Method) (k : List Item) (l : Local) (args : Pairs) → IsFree l → Issued (suc s.calls) (requests s f m k l args)
+requests_made : (s : Scene) (f : CallBody) (k : List Item) (l : Local) (a : Asked) (r : Answer Request) → IsFree l → request s.facts.routes a s.facts.id (suc s.calls) ≡ r → Issued s (on s k l r (sends s f.result a.timeout k l))
+requests_made s f k l a (Err t) h is = inl (unwind_plain s k l (error_map t) h)
+requests_made s f k l a (Ok q) h is = inr (record { request = q; due = _; local = _; result = f.result; is = refl; wait = refl; asks = a; made = is })
+
+requests_issued : (s : Scene) (f : CallBody) (m : Option Method) (k : List Item) (l : Local) (args : Pairs) → IsFree l → Issued s (requests s f m k l args)
 requests_issued s f m k l args h =
-    on_issued (suc s.calls) s k l (asked m args) (λ a. on s k l (request s.facts.routes a s.facts.id (suc s.calls)) (sends s f.result a.timeout k l)) h
-    (λ a. on_issued (suc s.calls) s k l (request s.facts.routes a s.facts.id (suc s.calls)) (sends s f.result a.timeout k l) h
-    (λ q. inr (record { request = q; due = _; local = _; result = f.result; is = refl; wait = refl })))
+    on_issued s k l (asked m args) (λ a. on s k l (request s.facts.routes a s.facts.id (suc s.calls)) (sends s f.result a.timeout k l)) h
+    (λ a. requests_made s f k l a (request s.facts.routes a s.facts.id (suc s.calls)) h refl)
 
-issues_call_issued : (s : Scene) (f : CallBody) (m : Option (Option Method)) (k : List Item) (l : Local) → IsFree l → Issued (suc s.calls) (issues_call s f m k l)
+issues_call_issued : (s : Scene) (f : CallBody) (m : Option (Option Method)) (k : List Item) (l : Local) → IsFree l → Issued s (issues_call s f m k l)
 issues_call_issued s f None k l h = inl tt
 issues_call_issued s f (Some m) k l h =
-    bool_case (Issued (suc s.calls)) (fits_call f) (on s k l (fill_fields f.args (view s l)) (requests s f m k l)) (Breaks _)
-    (λ _. on_issued (suc s.calls) s k l (fill_fields f.args (view s l)) (requests s f m k l) h (λ args. requests_issued s f m k l args h))
+    bool_case (Issued s) (fits_call f) (on s k l (fill_fields f.args (view s l)) (requests s f m k l)) (Breaks _)
+    (λ _. on_issued s k l (fill_fields f.args (view s l)) (requests s f m k l) h (λ args. requests_issued s f m k l args h))
     (λ _. inl tt)
 
-body_issued : (s : Scene) (x : Text) (body : Body) (next : Option Text) (block left : Steps) (k : List Item) (l : Local) → IsFree l → Issued (suc s.calls) (issues s (Do block (more (step x body next) left) ∷ k) l)
+body_issued : (s : Scene) (x : Text) (body : Body) (next : Option Text) (block left : Steps) (k : List Item) (l : Local) → IsFree l → Issued s (issues s (Do block (more (step x body next) left) ∷ k) l)
 body_issued s x (Body.Call f) next block left k l h = issues_call_issued s f (http_method (special_named f.name)) (then_item next (Do block left ∷ k)) l h
 body_issued s x body next block left k l h = inl tt
 
-issues_issued : (s : Scene) (k : List Item) (l : Local) → IsFree l → Issued (suc s.calls) (issues s k l)
+issues_issued : (s : Scene) (k : List Item) (l : Local) → IsFree l → Issued s (issues s k l)
 issues_issued s [] l h = inl tt
 issues_issued s (Do block no_steps ∷ k) l h = inl tt
 issues_issued s (Do block (more (step x body next) left) ∷ k) l h = body_issued s x body next block left k l h
 issues_issued s (i ∷ k) l h = inl tt
 
-pub issue_issued : (s : Scene) (l : Local) → IsFree l → Issued (suc s.calls) (issue s l)
+pub issue_issued : (s : Scene) (l : Local) → IsFree l → Issued s (issue s l)
 issue_issued s l h = issues_issued s l.control l h

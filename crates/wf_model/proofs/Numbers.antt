@@ -5,7 +5,7 @@ use mathlib.Core.Path.{refl, sym, subst}
 use Rattle.wf_ast.specs.Tree.{Steps, LoopBody, ParallelBody, parallel, OfBranches, OfLoop, branch, no_branches, Program}
 use Rattle.wf_model.proofs.After.{Leads, led_to}
 use Rattle.wf_model.proofs.TaskLists.{higher, put_rises, drop_rises, known}
-use Rattle.wf_model.proofs.Walk.{bool_case, leads_on, when_leads}
+use Rattle.wf_model.proofs.Walk.{bool_case, some_case, leads_on, when_leads}
 use Rattle.wf_model.specs.Config.{Left, WorkLeft, BranchesLeft, ValuesLeft, Item, Do, Wait, Calling, Task, Call, Open, Answered, TimedOut, Outcome, Active, Returned, Raised, Cancelled, Config, After, To, Wrong, NotNow, body_limit, move_limit, task, with_task, next_of}
 use Rattle.wf_model.specs.Kinds.{Plainly, ByClock, ByCall}
 use Rattle.wf_model.specs.Local.{Outer, Local, Scene, End, Effect, Sends, Creates, Takes, Logs, Moved, Goes, Ends, Does, Breaks, Not, goes}
@@ -21,10 +21,6 @@ use Rattle.wf_value.specs.Errors.{error_map, Answer}
 use Rattle.wf_value.specs.Events.{Visitor, Reply, Event, Start}
 use Rattle.wf_value.specs.HttpText.{reply_result, visit_result, reply_length}
 use Rattle.wf_value.specs.Queues.{ArriveFault, arrive_fault}
-
-pub some_case : {A B : Type 0} (P : B → Type 0) (o : Option A) (x : B) (f : A → B) → P x → ((t : A) → o ≡ Some t → P (f t)) → P (elim o [ None ↦ x | Some t ↦ f t ])
-some_case P None x f h k = h
-some_case P (Some t) x f h k = k t refl
 
 -- ## With so many tasks made, and so many moves
 abbrev With : ℕ → ℕ → Config → Type 0

@@ -8,7 +8,7 @@ use Rattle.wf_model.specs.Unwind.{from_step}
 use Rattle.wf_model.specs.NodeKinds.{Listed, View, node_view}
 use Rattle.wf_model.specs.Spots.{Spot, owners_at, part_at, part_list}
 use Rattle.wf_model.specs.Table.{Leads, LeadsInto, NextLeads, Resolves, list_at}
-use Rattle.wf_model.specs.Told.{NextTells, Tells, TellsInto, Told, is_more, numbers, steps_at}
+use Rattle.wf_model.specs.Told.{NextTells, JumpTells, TellsInto, Told, is_more, numbers, steps_at}
 use Rattle.wf_model.specs.declared.node.Jump.{Jump}
 use Rattle.wf_model.specs.declared.node.Node.{Node}
 use Rattle.wf_value.specs.Pairs.{Text}
@@ -65,14 +65,14 @@ module _ (ns : List Spot) (views : List View) (x : Text) (j : Jump) (o depth : �
         only = λ i e. t.only i (ap (λ xs. slice_get xs i) steps ∙ e) ∙ f.2;
       }
 
-tells : (ns : List Spot) (views : List View) (x : Text) (j : Option Jump) (os : List ℕ) → Leads ns views x j os → Tells ns views x j os
+tells : (ns : List Spot) (views : List View) (x : Text) (j : Option Jump) (os : List ℕ) → Leads ns views x j os → JumpTells ns views x j os
 tells ns views x None [] l = l
 tells ns views x (Some j) [] l = l
 tells ns views x None (o ∷ os) l = (l.0, tells ns views x None os l.1)
 tells ns views x (Some j) (o ∷ os) (inl into) = inl (tells_into ns views x j o (suc (length os)) into)
 tells ns views x (Some j) (o ∷ os) (inr lacks) = inr (lacks.0, tells ns views x (Some j) os lacks.1)
 
-leads : (ns : List Spot) (views : List View) (x : Text) (j : Option Jump) (os : List ℕ) → Tells ns views x j os → Leads ns views x j os
+leads : (ns : List Spot) (views : List View) (x : Text) (j : Option Jump) (os : List ℕ) → JumpTells ns views x j os → Leads ns views x j os
 leads ns views x None [] t = t
 leads ns views x (Some j) [] t = t
 leads ns views x None (o ∷ os) t = (t.0, leads ns views x None os t.1)

@@ -1,5 +1,5 @@
 -- What the waits of the live tasks weigh, at each step.
-use Rattle.std.specs.Prelude.{◌≡◌, ◌≤◌, ◌+◌, ◌*◌, ℕ, suc, Bool, true, false, List, [], ◌∷◌, ◌++◌, length, if◌then◌else◌, nat_eq, nat_lt, nat_le, Some, None, Ok, Err, Option, Result, option_map}
+use Rattle.std.specs.Prelude.{◌≡◌, ◌≤◌, ◌+◌, ◌*◌, ℕ, suc, unwrap_or, Bool, true, false, List, [], ◌∷◌, ◌++◌, length, if◌then◌else◌, nat_eq, nat_lt, nat_le, Some, None, Ok, Err, Option, Result, option_map}
 use Rattle.std.proofs.Common.{refl, sym, ◌∙◌, ap, subst, arith}
 use Rattle.std.proofs.lemmas.Bool.{eq-eqb, ltb-true, ne_eqb}
 use Rattle.wf_lemmas.proofs.Options.{by_cases}
@@ -9,10 +9,9 @@ use Rattle.wf_model.proofs.After.{Leads, led_to}
 use Rattle.wf_model.proofs.Awaited.{Same, close_tasks, put_outer_same, task_of, waiting_from}
 use Rattle.wf_model.proofs.TaskLists.{higher, put_rises, drop_rises, known, drop_other, none_below, put_other, put_same}
 use Rattle.wf_model.proofs.Counts.{Same as Same_of, same_stays}
-use Rattle.wf_model.proofs.Numbers.{some_case}
-use Rattle.wf_model.proofs.Walk.{bool_case, leads_on, when_leads, by_itself_stays, begins_stays, timed_out_stays}
+use Rattle.wf_model.proofs.Walk.{bool_case, some_case, leads_on, when_leads, by_itself_stays, begins_stays, timed_out_stays, merged_stays, replied_to_stays, visited_stays}
 use Rattle.wf_model.specs.Config.{Left, WorkLeft, BranchesLeft, ValuesLeft, Item, Do, Entries, Try, Judge, Mark, Back, Wait, Awake, Sleep, Delay, Calling, Await, Task, Call, Open, Answered, TimedOut, Outcome, Active, Returned, Raised, Cancelled, Config, After, To, Wrong, NotNow, move_limit, body_limit, call_limit, task, task_in, with_task, put_in, drop_in, next_of}
-use Rattle.wf_model.specs.CountLaws.{weight, weigh, EventsAreCounted, IsFromOutside, TakenWeighsNothing, TasksWeighLittle}
+use Rattle.wf_model.specs.CountLaws.{weight, weigh, EventsAreCounted, IsFromOutside, TakenWeighsNothing, TasksWeighLittle, price, prices, arrivals, is_over, EventsAreFew, RunsAreShort}
 use Rattle.wf_model.specs.Kinds.{Plainly, ByClock, ByCall}
 use Rattle.wf_model.specs.Layers.{Held, Own, Outside, Nowhere, held, opened, enter, written, made_new, all_share, Assigned, Done, Refused, Undeclared, within_limits, put_own, put_outside, put_layer, put_outer as put_in_outer, assign_at, assign}
 use Rattle.wf_model.specs.Leave.{on_assigned, gives, handed}
@@ -20,13 +19,14 @@ use Rattle.wf_model.specs.Local.{Outer, Local, Scene, Effect, Moved, Goes, Ends,
 use Rattle.wf_model.specs.Move.{entered, move, issue, loop_steps, awake, resumed, retries, timeout_error, due_by, due}
 use Rattle.wf_model.specs.ReadingLaws.{IsFromInside}
 use Rattle.wf_model.specs.Ready.{call, may_begin, is_due}
-use Rattle.wf_model.specs.Run.{run_on}
-use Rattle.wf_model.specs.RunLaws.{RisesFrom}
+use Rattle.wf_model.specs.Run.{main_steps, main_task, main_local, empty, initial, run_on}
+use Rattle.wf_model.specs.RunLaws.{RisesFrom, RunsAreBounded}
 use Rattle.wf_model.specs.Step.{stopped, one_more, counted, read_at, close, replied, replied_to, timed_out, begun, new_task, fresh, starts, starts_turn, starts_work, begins_by, when, wants, for_task, bodies_left, waits_for, waiting_in, result_of, taken_by, visited, by_event, step_from, next}
 use Rattle.wf_model.specs.Taken.{scene, local, put_outer, layer_at, joined, put_error, without_task, finish, done, merged, by_itself}
 use Rattle.wf_model.specs.Unwind.{Judgement, Says, Asks, judged, retried, excepted, handled, called, asked_one, asks, decided, policy_of, unwind, calls_in}
-use Rattle.wf_model.specs.WaitLaws.{Info, info, info_at, Sound, StepsStaySound}
-use Rattle.wf_value.specs.Events.{Event, Reply, Visitor}
+use Rattle.wf_model.specs.WaitLaws.{Info, info, info_at, Sound, SoundAtFirst, StepsStaySound}
+use Rattle.wf_value.specs.Decode.{json_value}
+use Rattle.wf_value.specs.Events.{Event, Reply, Start, Visitor}
 use Rattle.wf_value.specs.HttpText.{reply_length, reply_result, visit_result}
 use Rattle.wf_value.specs.Queues.{ArriveFault, arrive_fault}
 use Rattle.wf_value.specs.Data.{Data, Pairs, null, no_pairs}
@@ -539,3 +539,139 @@ outside_light Active p c (Event.Cancel r) h is = absurd is
 
 pub taken_weighs_nothing : TakenWeighsNothing
 taken_weighs_nothing p b c e sound outside is = led_to (λ x. weigh x.tasks ≤ weigh b.tasks) (next p b e) c (outside_light b.outcome p b e (placed b sound) outside) is
+
+-- ## All events
+-- a task that waits for a call goes on, at most into a delay: it is lighter then
+goes_on_lighter : (p : Program) (b : ℕ) (f : Scene → Local → Moved) (c d : Config) → Placed c → d.tasks ≡ c.tasks → d.made ≡ c.made → ((t : Task) → task c b ≡ Some t → 2 ≤ weight t.wait) → ((s : Scene) (l : Local) → By (Within 1) (f s l))
+    → Leads (λ e. suc (weigh e.tasks) ≤ weigh c.tasks + is_over e.outcome) (by_itself p b 0 f d)
+goes_on_lighter p b f c d h tasks made heavy light =
+    let rises : RisesFrom 0 d.made d.tasks = subst (λ m. RisesFrom 0 m d.tasks) (sym made) (subst (λ ts. RisesFrom 0 c.made ts) (sym tasks) h.rises) in
+    let same : weigh d.tasks ≡ weigh c.tasks = ap weigh tasks in
+    some_case (Leads (λ e. suc (weigh e.tasks) ≤ weigh c.tasks + is_over e.outcome)) (task d b) NotNow (λ v. merged b v.parent (f (scene p d b v 0) (local d b v)) d) tt
+    (λ v found.
+    let there : task c b ≡ Some v = ap (λ ts. task_in ts b) (sym tasks) ∙ found in
+    let weighs = heavy v there in
+    leads_on (Gains d (weight v.wait) 1) (λ e. suc (weigh e.tasks) ≤ weigh c.tasks + is_over e.outcome) (merged b v.parent (f (scene p d b v 0) (local d b v)) d) (λ e gains. omega (arith, gains, weighs, same))
+    (merged_gains 1 b v.parent (f (scene p d b v 0) (local d b v)) d v rises found (far_from b v c h there) (light (scene p d b v 0) (local d b v))))
+
+replied_lighter : (p : Program) (n : ℕ) (a : Reply) (i : ℕ) (t : Task) (w : Wait) (c : Config) → Placed c → task c i ≡ Some t → t.wait ≡ w → Leads (λ e. suc (weigh e.tasks) ≤ weigh c.tasks + is_over e.outcome) (replied p n a i w c)
+replied_lighter p n a i t (Calling m r) c h there is =
+    let e = record c { bodies = c.bodies + reply_length a } in
+    let f : Scene → Local → Moved = λ z l. resumed z r (reply_result a) l in
+    let same = close_tasks n Answered e in
+    bool_case (Leads (λ x. suc (weigh x.tasks) ≤ weigh c.tasks + is_over x.outcome)) (nat_le (c.bodies + reply_length a) body_limit) (by_itself p i 0 f (close n Answered e)) (To (stopped c))
+    (λ _. goes_on_lighter p i f c (close n Answered e) h same.0 same.1
+    (λ v found.
+    let two : Some t ≡ Some v = sym there ∙ found in
+    let one : t ≡ v = cc two in
+    let weighs : weight v.wait ≡ 2 = ap (λ (x : Task). weight x.wait) (sym one) ∙ ap weight is in
+    omega (arith, weighs))
+    (λ z l. resumed_within z r (reply_result a) l))
+    (λ _. omega arith)
+replied_lighter p n a i t Awake c h there is = tt
+replied_lighter p n a i t (Sleep d r) c h there is = tt
+replied_lighter p n a i t (Delay d) c h there is = tt
+replied_lighter p n a i t (Await m d r) c h there is = tt
+
+replied_to_lighter : (p : Program) (n : ℕ) (a : Reply) (x : Call) (c : Config) → Placed c → Leads (λ e. suc (weigh e.tasks) ≤ weigh c.tasks + is_over e.outcome) (replied_to p n a x c)
+replied_to_lighter p n a (Open i q d) c h = some_case (Leads (λ e. suc (weigh e.tasks) ≤ weigh c.tasks + is_over e.outcome)) (task c i) NotNow (λ t. replied p n a i t.wait c) tt (λ t there. replied_lighter p n a i t t.wait c h there refl)
+replied_to_lighter p n a Answered c h = tt
+replied_to_lighter p n a TimedOut c h = tt
+
+-- what an event uses up
+abbrev Uses : Config → ℕ → Config → Type 0
+Uses b n c = weigh c.tasks + n + 3 * b.moves ≤ weigh b.tasks + 3 * c.moves + is_over c.outcome
+
+pays_uses : (b : Config) (a : After) → Leads (Pays b) a → Leads (Uses b 1) a
+pays_uses b a h = leads_on (Pays b) (Uses b 1) a (λ e x. omega (arith, x)) h
+
+by_event_uses : (p : Program) (c : Config) (e : Event) → Placed c → Leads (Uses c (price e)) (by_event p c e)
+by_event_uses p c (Event.Move b) h = pays_uses c _ (by_event_pays p c (Event.Move b) h tt)
+by_event_uses p c (Event.MoveAt b r) h = pays_uses c _ (by_event_pays p c (Event.MoveAt b r) h tt)
+by_event_uses p c (Event.Begin b) h = pays_uses c _ (by_event_pays p c (Event.Begin b) h tt)
+by_event_uses p c (Event.Issue b r) h = pays_uses c _ (by_event_pays p c (Event.Issue b r) h tt)
+by_event_uses p c (Event.Due b r) h = pays_uses c _ (by_event_pays p c (Event.Due b r) h tt)
+by_event_uses p c (Event.Answer n r a) h =
+    when_leads (Uses c 1) (nat_le c.last r) _ (λ _.
+    leads_on (λ e. (suc (weigh e.tasks) ≤ weigh c.tasks + is_over e.outcome) × Same_of (read_at r c) e) (Uses c 1) (replied_to p n a (call c n) (read_at r c)) (λ e x. let y = x.0 in let z = x.1.2 in omega (arith, y, z))
+    (both_lead (λ e. suc (weigh e.tasks) ≤ weigh c.tasks + is_over e.outcome) (Same_of (read_at r c)) (replied_to p n a (call c n) (read_at r c)) (replied_to_lighter p n a (call c n) (read_at r c) (at_read r c h))
+    (replied_to_stays (Same_of (read_at r c)) (same_stays (read_at r c)) p n a (call c n) (read_at r c) (refl, refl, refl))))
+by_event_uses p c (Event.Arrive n r v) h =
+    when_leads (Uses c 0) (nat_le c.last r) _ (λ _.
+    let f = arrive_fault c.endpoints n v (bodies_left c) in
+    leads_on (λ e. (weigh e.tasks ≤ weigh c.tasks) × Same_of (read_at r c) e) (Uses c 0) (visited p n v f (read_at r c)) (λ e x. let y = x.0 in let z = x.1.2 in omega (arith, y, z))
+    (both_lead (λ e. weigh e.tasks ≤ weigh c.tasks) (Same_of (read_at r c)) (visited p n v f (read_at r c)) (visited_light p n v f (read_at r c) (at_read r c h))
+    (visited_stays (Same_of (read_at r c)) (same_stays (read_at r c)) p n v f (read_at r c) (refl, refl, refl))))
+by_event_uses p c (Event.Cancel r) h = when_leads (Uses c 1) (nat_le c.last r) _ (λ _. omega arith)
+
+step_uses : (o : Outcome) (p : Program) (c : Config) (e : Event) → Placed c → Leads (Uses c (price e)) (step_from o p c e)
+step_uses Active p c e h = by_event_uses p c e h
+step_uses (Returned v) p c e h = tt
+step_uses (Raised v) p c e h = tt
+step_uses Cancelled p c e h = tt
+
+-- an event comes only without an outcome
+still_active : (o : Outcome) (p : Program) (c d : Config) (e : Event) → step_from o p c e ≡ To d → is_over o ≡ 0
+still_active Active p c d e is = refl
+still_active (Returned v) p c d e is = absurd (let f : NotNow ≡ To d = is in cc f)
+still_active (Raised v) p c d e is = absurd (let f : NotNow ≡ To d = is in cc f)
+still_active Cancelled p c d e is = absurd (let f : NotNow ≡ To d = is in cc f)
+
+pub events_are_few : StepsStaySound → EventsAreFew
+events_are_few stay p b c [] sound is = let same : b ≡ c = cc is in subst (λ (d : Config). weigh d.tasks + 0 + 3 * b.moves ≤ weigh b.tasks + 3 * d.moves + is_over d.outcome) same (omega arith)
+events_are_few stay p b c (e ∷ es) sound is =
+    let (d, first) = starts_there p (next p b e) es c is in
+    let uses = led_to (Uses b (price e)) (next p b e) d (step_uses b.outcome p b e (placed b sound)) first in
+    let onward : run_on p (To d) es ≡ To c = ap (λ a. run_on p a es) (sym first) ∙ is in
+    behind d uses es onward (events_are_few stay p d c es (stay p b d e sound first) onward)
+  where
+    behind : (d : Config) → Uses b (price e) d → (fs : List Event) → run_on p (To d) fs ≡ To c → weigh c.tasks + prices fs + 3 * d.moves ≤ weigh d.tasks + 3 * c.moves + is_over c.outcome
+        → weigh c.tasks + (price e + prices fs) + 3 * b.moves ≤ weigh b.tasks + 3 * c.moves + is_over c.outcome
+    behind d uses [] onward rest = let same : d ≡ c = cc onward in subst (λ (x : Config). weigh x.tasks + (price e + 0) + 3 * b.moves ≤ weigh b.tasks + 3 * x.moves + is_over x.outcome) same (omega (arith, uses))
+    behind d uses (f ∷ fs) onward rest =
+        let (x, second) = starts_there p (next p d f) fs c onward in
+        let active = still_active d.outcome p d x f second in
+        omega (arith, uses, rest, active)
+
+each_is_one : (es : List Event) → length es ≡ prices es + arrivals es
+each_is_one [] = refl
+each_is_one (Event.Move b ∷ es) = let h = each_is_one es in omega (arith, h)
+each_is_one (Event.MoveAt b r ∷ es) = let h = each_is_one es in omega (arith, h)
+each_is_one (Event.Begin b ∷ es) = let h = each_is_one es in omega (arith, h)
+each_is_one (Event.Issue b r ∷ es) = let h = each_is_one es in omega (arith, h)
+each_is_one (Event.Answer k r a ∷ es) = let h = each_is_one es in omega (arith, h)
+each_is_one (Event.Due b r ∷ es) = let h = each_is_one es in omega (arith, h)
+each_is_one (Event.Arrive n r v ∷ es) = let h = each_is_one es in omega (arith, h)
+each_is_one (Event.Cancel r ∷ es) = let h = each_is_one es in omega (arith, h)
+
+over_at_most : (o : Outcome) → is_over o ≤ 1
+over_at_most Active = omega arith
+over_at_most (Returned v) = omega arith
+over_at_most (Raised v) = omega arith
+over_at_most Cancelled = omega arith
+
+-- at first the only task weighs nothing
+light_at_first : (p : Program) (s : Start) (b : Config) → initial p s ≡ To b → (weigh b.tasks ≡ 0) × (b.moves ≡ 0)
+light_at_first p s b is =
+    let k : List Item = Do (main_steps p.flows) (main_steps p.flows) ∷ [] in
+    let l : Local = main_local p (unwrap_or (json_value s.argument) null) in
+    let m : Moved = goes k l in
+    let none : weight l.wait ≤ 0 = omega arith in
+    let by : By (Within 0) m = goes_by (Within 0) k l none in
+    let rises : RisesFrom 0 (empty s).made (empty s).tasks = (omega arith, omega arith, tt) in
+    let gains : Gains (empty s) 0 0 b = led_to (Gains (empty s) 0 0) (initial p s) b (merged_gains 0 0 None m (empty s) main_task rises refl (λ q no. let f : None ≡ Some q = no in cc f) by) is in
+    let same = led_to (Same_of (empty s)) (initial p s) b (merged_stays (Same_of (empty s)) (same_stays (empty s)) 0 None m (empty s) (refl, refl, refl)) is in
+    let moves = same.2 in
+    (omega (arith, gains), moves)
+
+pub runs_are_short : StepsStaySound → SoundAtFirst → RunsAreBounded → RunsAreShort
+runs_are_short stay first bounded p s es c run =
+    let (b, begins) = starts_there p (initial p s) es c run in
+    let light = light_at_first p s b begins in
+    let weighs = light.0 in
+    let moves = light.1 in
+    let few = events_are_few stay p b c es (first p s b begins) (ap (λ a. run_on p a es) (sym begins) ∙ run) in
+    let most = (bounded p s es c run).moves in
+    let over = over_at_most c.outcome in
+    let size = each_is_one es in
+    omega (arith, weighs, moves, few, most, over, size)

@@ -39,15 +39,15 @@ pub record TellsInto (ns : List Spot) (views : List View) (x : Text) (j : Jump) 
   pub only : (i : ℕ) → slice_get (steps_at views o) i ≡ Some j.to → from i (part_list (part_at ns o)) ≡ from_step x (part_list (part_at ns o))
 
 -- the jump is to the first of these lists, innermost first, that has the step; without a jump none has
-abbrev pub Tells : List Spot → List View → Text → Option Jump → List ℕ → Type 0
-Tells ns views x None [] = Unit {0}
-Tells ns views x (Some j) [] = ⊥
-Tells ns views x None (o ∷ os) = Lacks ns x o × Tells ns views x None os
-Tells ns views x (Some j) (o ∷ os) = TellsInto ns views x j o (suc (length os)) ⊎ (Lacks ns x o × Tells ns views x (Some j) os)
+abbrev pub JumpTells : List Spot → List View → Text → Option Jump → List ℕ → Type 0
+JumpTells ns views x None [] = Unit {0}
+JumpTells ns views x (Some j) [] = ⊥
+JumpTells ns views x None (o ∷ os) = Lacks ns x o × JumpTells ns views x None os
+JumpTells ns views x (Some j) (o ∷ os) = TellsInto ns views x j o (suc (length os)) ⊎ (Lacks ns x o × JumpTells ns views x (Some j) os)
 
 abbrev pub NextTells : List Spot → List View → Option Text → Option Jump → List ℕ → Type 0
 NextTells ns views None j os = j ≡ None
-NextTells ns views (Some x) j os = Tells ns views x j os
+NextTells ns views (Some x) j os = JumpTells ns views x j os
 
 -- so does each node's
 abbrev pub EachTells : List Spot → List Node → Type 0
@@ -126,12 +126,12 @@ either a b never (inr x) (inr y) = ap inr (b x y)
 either a b never (inl x) (inr y) = absurd (never x y)
 either a b never (inr x) (inl y) = absurd (never y x)
 
-Tells-prop : (ns : List Spot) (views : List View) (x : Text) (j : Option Jump) (os : List ℕ) → IsProp (Tells ns views x j os)
-Tells-prop ns views x None [] = Unit-prop
-Tells-prop ns views x (Some j) [] = λ a b. absurd a
-Tells-prop ns views x None (o ∷ os) = ×_prop (Steps-set (from_step x (part_list (part_at ns o))) no_steps) (Tells-prop ns views x None os)
-Tells-prop ns views x (Some j) (o ∷ os) =
-    either (TellsInto-prop ns views x j o (suc (length os))) (×_prop (Steps-set (from_step x (part_list (part_at ns o))) no_steps) (Tells-prop ns views x (Some j) os))
+JumpTells-prop : (ns : List Spot) (views : List View) (x : Text) (j : Option Jump) (os : List ℕ) → IsProp (JumpTells ns views x j os)
+JumpTells-prop ns views x None [] = Unit-prop
+JumpTells-prop ns views x (Some j) [] = λ a b. absurd a
+JumpTells-prop ns views x None (o ∷ os) = ×_prop (Steps-set (from_step x (part_list (part_at ns o))) no_steps) (JumpTells-prop ns views x None os)
+JumpTells-prop ns views x (Some j) (o ∷ os) =
+    either (TellsInto-prop ns views x j o (suc (length os))) (×_prop (Steps-set (from_step x (part_list (part_at ns o))) no_steps) (JumpTells-prop ns views x (Some j) os))
     (λ into lacks. true≢false (sym into.first ∙ ap is_more lacks.0))
 
 Jump-set : IsSet Jump
@@ -139,7 +139,7 @@ Jump-set = hlevel (ℕ-set)
 
 NextTells-prop : (ns : List Spot) (views : List View) (x : Option Text) (j : Option Jump) (os : List ℕ) → IsProp (NextTells ns views x j os)
 NextTells-prop ns views None j os = Option-set Jump-set j None
-NextTells-prop ns views (Some x) j os = Tells-prop ns views x j os
+NextTells-prop ns views (Some x) j os = JumpTells-prop ns views x j os
 
 pub Told-prop : (ns : List Spot) (nodes : List Node) → IsProp (Told ns nodes)
 Told-prop ns nodes = hlevel (ℕ-set, Describes-prop, NextTells-prop)

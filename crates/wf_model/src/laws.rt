@@ -1,8 +1,8 @@
 //! Laws of the language's meaning, for every program. The functions do nothing; each of their clauses is a law.
 
 ghost use Rattle.wf_model.specs.ChoiceLaws.{NothingIsChosenWhenQuiet, NothingIsChosenBehindAnOutcome, ChoiceTakesTheReading};
-ghost use Rattle.wf_model.specs.CallLaws.{CallsGoOn, AnswersClose};
-ghost use Rattle.wf_model.specs.CountLaws.{EventsAreCounted, TakenWeighsNothing, TasksWeighLittle};
+ghost use Rattle.wf_model.specs.CallLaws.{CallsGoOn, AnswersClose, RequestsAreAsked};
+ghost use Rattle.wf_model.specs.CountLaws.{EventsAreCounted, EventsAreFew, RunsAreShort, TakenWeighsNothing, TasksWeighLittle};
 ghost use Rattle.wf_model.specs.ReadingLaws.{StepsRead, ChosenIsFromInside};
 ghost use Rattle.wf_model.specs.WaitLaws.{AnswersLead, CallsAreAwaited, QuietHasADue, RootLives, SoundAtFirst, SoundIsAwaited, StepsStaySound, WaitingHasADue};
 ghost use Rattle.wf_model.specs.TurnLaws.{NextTurnGoesOn, LaterTurnDoesNotCount, AllTurnsAreTheRun};
@@ -41,10 +41,12 @@ pub fn laws_of_turns()
     ensures all_turns_are_the_run { AllTurnsAreTheRun }
 {}
 
-/// What holds of calls: events only close them, new ones come behind, and an answer closes its call unless it ends the execution.
+/// What holds of calls: events only close them, new ones come behind, and an answer closes its call unless it ends the execution. The
+/// request of an open call is made of what it asks, of the execution's id and of the call's number.
 pub fn laws_of_calls()
     ensures calls_go_on { CallsGoOn }
     ensures answers_close { AnswersClose }
+    ensures requests_are_asked { RequestsAreAsked }
 {}
 
 /// What holds of readings and choices: a step takes its event's reading, and what is chosen needs nothing from outside.
@@ -66,10 +68,13 @@ pub fn laws_of_waits()
     ensures answers_lead { AnswersLead }
 {}
 
-/// What holds of events that nothing outside has to bring: with each of them the weight of the tasks' waits and three times the moves that
-/// are left fall. An answer or a request that comes makes no task heavier, and a task weighs at most two.
+/// What holds of counts of events: with each that nothing outside has to bring, the weight of the tasks' waits and three times the moves
+/// that are left fall. An answer or a request that comes makes no task heavier, and a task weighs at most two. With each event but a
+/// request they fall, or the execution ends; so a run has at most 300,001 events beside the requests that came.
 pub fn laws_of_counts()
     ensures events_are_counted { EventsAreCounted }
     ensures taken_weighs_nothing { TakenWeighsNothing }
     ensures tasks_weigh_little { TasksWeighLittle }
+    ensures events_are_few { EventsAreFew }
+    ensures runs_are_short { RunsAreShort }
 {}

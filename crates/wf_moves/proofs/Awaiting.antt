@@ -12,6 +12,7 @@ awaited_breaks : (a : Around) (s : Scene) (kind : Kind) (x : Awaits) (l : Local)
 awaited_breaks a s kind (awaits.Sent x w) l = tt
 awaited_breaks a s kind (awaits.Logged x w) l = tt
 awaited_breaks a s kind (awaits.Waits w) l = tt
+awaited_breaks a s kind (awaits.Forks f j) l = tt
 
 -- what no accepted program does may give anything
 pub done_breaks : (a : Around) (s : Scene) (kind : Kind) (d : Done) (l : Local) → IsDone a s (Breaks kind) d l

@@ -18,3 +18,6 @@ pub mod Stepping
 pub mod Turning
 pub mod Unwinding
 pub mod Waiting
+mod Splitting
+mod Agreeing
+mod Openings

@@ -40,7 +40,7 @@ use Rattle.wf_value.specs.declared.Value.{Value}
 use Rattle.wf_moves.proofs.Unwinding.{try_is}
 use Rattle.wf_moves.specs.Retries.{IsLed, LeadsBy, TriedAt, ask_at, asked_by, decide_at, retry_at, try_at, verdict_of, verdict_said, Asked, AsksFlow, IsAskedOn}
 use Rattle.wf_moves.specs.Moved.{IsEnd, IsWent, IsTurned}
-use Rattle.wf_moves.specs.Waits.{wait_view}
+use Rattle.wf_moves.specs.Waits.{waiting}
 use Rattle.wf_moves.specs.declared.judging.Verdict.TheVariants as verdict
 use Rattle.wf_moves.specs.declared.leading.Led.{Led}
 use Rattle.wf_moves.specs.declared.leading.Led.TheVariants as led
@@ -56,7 +56,7 @@ use Rattle.wf_frames.specs.Tasks.{Own}
 use Rattle.wf_scope.specs.declared.scopes.Scopes.{Scopes}
 use Rattle.wf_value.specs.Policies.{default_says, next_delay}
 use Rattle.wf_frames.proofs.Parts.{tried_stands}
-use Rattle.wf_frames.specs.Built.{AreTargets, IsAsked, IsWorkflow, Tells}
+use Rattle.wf_frames.specs.Built.{AreTargets, IsAsked, IsWorkflow, IsTableOf}
 use Rattle.wf_frames.specs.declared.target.Target.{Target}
 use Rattle.wf_frames.specs.declared.target.Target.TheVariants as target
 use Rattle.wf_value.specs.Data.{Data, boolean, depth}
@@ -69,7 +69,7 @@ use Rattle.wf_value.specs.declared.Tag.TheVariants.{RecursionError, ResourceLimi
 pub breaks_led : (a : Around) (m : Moved) (d : Led) (l : Local) → (kind : Kind) × (m ≡ Breaks kind) → IsLed a m d l
 breaks_led a m led.Goes l b = subst (λ x. IsWent x l) (sym b.1) tt
 breaks_led a m (led.Ended e) l b = subst (λ x. IsEnd x e l) (sym b.1) tt
-breaks_led a m (led.Waits w) l b = subst (λ x. IsWent x (record l { wait = wait_view a w })) (sym b.1) tt
+breaks_led a m (led.Waits w) l b = subst (λ x. IsWent x (waiting a w l)) (sym b.1) tt
 
 -- ## One more frame
 -- that ends no layer
@@ -88,7 +88,7 @@ top_is f [] t = absurd (cc t)
 top_is f (g ∷ rest) t = let same : g ≡ f = cc t in (rest, ap (λ y. y ∷ rest) same)
 
 -- ## A retry
-module _ (a : Around) (nodes : List Node) (tells : Tells a.spots nodes) (r : Tried) (y : TryNode) (h : IsTry nodes r.node y) where
+module _ (a : Around) (nodes : List Node) (tells : IsTableOf a.spots nodes) (r : Tried) (y : TryNode) (h : IsTry nodes r.node y) where
   retry_is : try_at a.spots r.node ≡ try (part_body (part_at a.spots y.body)) (policy_option_view y.policy) (except_of a.spots (handler_view y.except))
   retry_is = try_is a.spots nodes tells r.node y h
 
@@ -135,7 +135,7 @@ module _ (a : Around) (nodes : List Node) (tells : Tells a.spots nodes) (r : Tri
 
 -- ## The body of a `try` again
 
-module _ (a : Around) (nodes : List Node) (tells : Tells a.spots nodes) (held : Box Trying Global) (y : TryNode) (h : IsTry nodes held.value.node y) (fs : List Frame) (t : topped fs ≡ Some (frame.Try held)) where
+module _ (a : Around) (nodes : List Node) (tells : IsTableOf a.spots nodes) (held : Box Trying Global) (y : TryNode) (h : IsTry nodes held.value.node y) (fs : List Frame) (t : topped fs ≡ Some (frame.Try held)) where
   again_goes : (l : Local) → retries (control a.spots fs) l ≡ goes (entered (part_body (part_at a.spots y.body)) ∷ control a.spots fs) l
   again_goes l = (
       let top = top_is (frame.Try held) fs t in
@@ -215,7 +215,7 @@ said_asks (Some p) n e q = by (nat_lt n p.max_retries) refl
     by true t = by_predicate p.predicate refl t
     by false t = none t
 
-module _ (a : Around) (nodes : List Node) (tells : Tells a.spots nodes) (r : Tried) (y : TryNode) (h : IsTry nodes r.node y) (e : Data) where
+module _ (a : Around) (nodes : List Node) (tells : IsTableOf a.spots nodes) (r : Tried) (y : TryNode) (h : IsTry nodes r.node y) (e : Data) where
   pub judged_by : judged (policy_of (try_at a.spots r.node)) r.tries e ≡ judged (policy_option_view y.policy) r.tries e
   judged_by = ap (λ z. judged (policy_of z) r.tries e) (try_is a.spots nodes tells r.node y h)
 
@@ -309,7 +309,7 @@ asks_flow a ts r e h n is = (
     (h.0, h.1, asked_flow a.flows a.spots (slice_get ts r.node) n h.0 found h.2)
     )
 
-pub asked_begun : (a : Around) (nodes : List Node) (tells : Tells a.spots nodes) (ts : List Target) (r : Tried) (e : Data) (h : Asked a ts r e) (n : ℕ) → get_or ts r.node (target.Flow 0) ≡ target.Flow n → Begun a.flows a.spots nodes n h.0
+pub asked_begun : (a : Around) (nodes : List Node) (tells : IsTableOf a.spots nodes) (ts : List Target) (r : Tried) (e : Data) (h : Asked a ts r e) (n : ℕ) → get_or ts r.node (target.Flow 0) ≡ target.Flow n → Begun a.flows a.spots nodes n h.0
 asked_begun a nodes tells ts r e h n is = (
     let found : slice_get ts r.node ≡ Some (target.Flow n) = slice_get-get_or ts r.node (target.Flow 0) (asked_within a ts r e h) ∙ ap (λ (t : Target). Some t) is in
     begun a.flows a.spots nodes n h.0 tells.resolves (asked_flow a.flows a.spots (slice_get ts r.node) n h.0 found h.2)

@@ -6,7 +6,7 @@ use Rattle.wf_frames.proofs.Sums.{SumIs}
 use Rattle.wf_frames.specs.Fits.{Fits, list_at, outside_at, view_outside}
 use Rattle.wf_frames.specs.Frames.{control, own, topped}
 use Rattle.wf_frames.specs.Held.{standing}
-use Rattle.wf_frames.specs.Owned.{Around, IsLinked, Linked, held_of}
+use Rattle.wf_frames.specs.Owned.{Around, IsLinked, Linked, besides, held_of}
 use Rattle.wf_frames.specs.declared.frames.Frame.{Frame}
 use Rattle.wf_frames.specs.declared.frames.Frame.TheVariants as frame
 use Rattle.wf_model.specs.Config.{Do}
@@ -25,7 +25,7 @@ use Rattle.wf_model.specs.declared.node.NodeKind.{NodeKind}
 use Rattle.wf_model.specs.declared.node.NodeKind.TheVariants as kind
 use Rattle.wf_scope.specs.Layers.{Layer, opened, vars_at, vars_in}
 use Rattle.wf_scope.specs.Store.{layers_of}
-use Rattle.wf_frames.specs.Tasks.{Far, Own, far_layers}
+use Rattle.wf_frames.specs.Tasks.{Far, Own, far_layers, numbers}
 use Rattle.wf_scope.specs.declared.scopes.Scopes.{Scopes}
 use Rattle.wf_value.proofs.Order.{in_order_empty, in_order_with_value}
 use Rattle.wf_value.specs.Data.{Data, Pairs, pairs_of, pairs_size}
@@ -115,6 +115,7 @@ module _ (a : Around) (x y : Scopes) (n : ℕ) (ps : List Param) (v : Data) (f :
     layers = subst (λ (ks : List Far). Linked ks (own n false ∷ []) (layers_of y)) (sym f.keys) (subst (λ (m : ℕ). Linked [] (own m false ∷ []) (layers_of y)) (sym number) (subst (λ ls. Linked [] (own 0 false ∷ []) ls) (sym layers) one_linked));
     limit = same ∙ f.limit;
     order = λ m. subst (λ ls. IsInOrder (vars_at m ls)) (sym layers) (one_order (arguments ps v) m (arguments_order ps v));
+    unseen = ap (λ (ks : List Far). besides (numbers (own n false ∷ []) ks) (layers_of y)) f.keys ∙ ap (λ (m : ℕ). besides (m ∷ []) (layers_of y)) number ∙ ap (besides (0 ∷ [])) layers ∙ sym f.rest;
     sum = subst (λ ls. SumIs a (own n false ∷ []) ls) (sym layers) one_sum;
   }
     where

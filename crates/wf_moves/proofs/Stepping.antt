@@ -71,6 +71,7 @@ module _ (a : Around) (old new : List Frame) (st : Step) (s : Scene) (l : Local)
       on : (x : Leads) → CallWants a.spots old x → leads_to a.spots x s (control a.spots new) l ≡ come_to a.spots x s (control a.spots new) l
       on (leading.Raises v) w = refl
       on (leading.Returns v) w = refl
+      on (leading.Forks n) w = refl
       on (leading.Calls n m) w = by_call (body_kind s.program (part_body (part_at a.spots n))) (sym (w s.program) ∙ e) _ _
 
       by : (x : Step) → WantsSame a.spots old x → leads a.spots x s (control a.spots new) l ≡ come a.spots x s (control a.spots new) l
@@ -86,6 +87,7 @@ module _ (a : Around) (old new : List Frame) (st : Step) (s : Scene) (l : Local)
       on : (x : Leads) → CallWants a.spots old x → leads_to a.spots x s (control a.spots new) l ≡ asks_to a.spots x s (control a.spots new) l
       on (leading.Raises v) w = refl
       on (leading.Returns v) w = refl
+      on (leading.Forks n) w = refl
       on (leading.Calls n m) w = ap (λ q. by_kind q (asks_with s (part_body (part_at a.spots n)) (pairs_of m) (control a.spots new) l) (calls_by s (part_body (part_at a.spots n)) (pairs_of m) (control a.spots new) l)) (sym (w s.program) ∙ e)
 
       by : (x : Step) → WantsSame a.spots old x → leads a.spots x s (control a.spots new) l ≡ asks a.spots x s (control a.spots new) l

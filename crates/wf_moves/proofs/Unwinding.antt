@@ -25,7 +25,7 @@ use Rattle.wf_model.specs.declared.node.Node.{Node}
 use Rattle.wf_model.specs.declared.node.NodeKind.{NodeKind}
 use Rattle.wf_model.specs.declared.node.TryNode.{TryNode}
 use Rattle.wf_frames.proofs.Parts.{list_is, list_of, tried_body, view_is}
-use Rattle.wf_frames.specs.Built.{Tells}
+use Rattle.wf_frames.specs.Built.{IsTableOf}
 use Rattle.wf_value.specs.Data.{Data}
 use Rattle.wf_value.specs.Errors.{error_map}
 use Rattle.wf_value.specs.declared.Tag.TheVariants.{ResourceLimitError}
@@ -98,7 +98,7 @@ module _ (ns : List Spot) where
   caught_out (f ∷ fs) l t s e = absurd (cc t)
 
 -- ## The steps that take the error
-module _ (ns : List Spot) (nodes : List Node) (t : Tells ns nodes) where
+module _ (ns : List Spot) (nodes : List Node) (t : IsTableOf ns nodes) where
   pub try_is : (n : ℕ) (y : TryNode) → IsTry nodes n y → body_try (part_body (part_at ns n)) ≡ try (part_body (part_at ns y.body)) (policy_option_view y.policy) (except_of ns (handler_view y.except))
   try_is n y h = ap body_try (tried_body ns nodes n y t.resolves h)
 
@@ -141,7 +141,7 @@ pub handler_owned : (p q n layer : ℕ) (old mid new : List Frame) → mid ≡ f
 handler_owned p q n layer old mid new m e same = ap (λ (k : ℕ). owned k new) same ∙ ap (owned p) (e ∙ ap (λ fs. frame.Do n 0 ∷ fs) m)
 
 -- without them the error goes on
-pub handled_past : (ns : List Spot) (nodes : List Node) (t : Tells ns nodes) (n : ℕ) (y : TryNode) → IsTry nodes n y → y.except ≡ None → (s : Scene) (e : Data) (k : List Item) (l : Local) (f : Data → Moved) → handled s e (body_try (part_body (part_at ns n))) k l f ≡ f e
+pub handled_past : (ns : List Spot) (nodes : List Node) (t : IsTableOf ns nodes) (n : ℕ) (y : TryNode) → IsTry nodes n y → y.except ≡ None → (s : Scene) (e : Data) (k : List Item) (l : Local) (f : Data → Moved) → handled s e (body_try (part_body (part_at ns n))) k l f ≡ f e
 handled_past ns nodes t n y h none s e k l f =
     ap (λ z. handled s e z k l f) (try_is ns nodes t n y h ∙ ap (λ x. try (part_body (part_at ns y.body)) (policy_option_view y.policy) (except_of ns (handler_view x))) none)
 

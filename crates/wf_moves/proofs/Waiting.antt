@@ -3,13 +3,14 @@ use Rattle.std.proofs.Common.{◌≡◌, ℕ, true, false, List, Some, None, ref
 use Rattle.std.specs.Prelude.{Option, slice_get}
 use Rattle.wf_frames.specs.Fits.{IsCall}
 use Rattle.wf_frames.specs.Frames.{inner}
-use Rattle.wf_frames.specs.Owned.{Around, local_of}
+use Rattle.wf_frames.specs.Owned.{Around, beside, control_of, local_of}
+use Rattle.wf_model.specs.Config.{Item}
 use Rattle.wf_frames.specs.declared.frames.Frames.{Frames}
 use Rattle.wf_moves.proofs.Going.{going}
 use Rattle.wf_model.specs.Local.{Breaks, Creates, Does, Ends, Goes, Local, Logs, Moved, Not, Scene, Sends, Takes}
 use Rattle.wf_moves.specs.Moved.{GoesNext, IsMove}
 use Rattle.wf_moves.specs.Tasks.{HasLogged, IsBehind, IsLogged, MovesTo, StaysBehind, StaysTold, is_told_sent, told_by}
-use Rattle.wf_moves.specs.Waits.{CanGoOn, GoesFrom, call_in, is_awake_in, is_call_at, is_call_kind, is_call_node, wait_view}
+use Rattle.wf_moves.specs.Waits.{CanGoOn, GoesFrom, is_awake_in, is_call_at, is_call_kind, is_call_node, control_in, is_free, is_joining, waiting}
 use Rattle.wf_moves.specs.declared.finish.Went.{Went}
 use Rattle.wf_moves.specs.declared.logging.Behind.{Behind}
 use Rattle.wf_moves.specs.declared.logging.Behind.TheVariants as behind
@@ -53,21 +54,30 @@ is_awake wait.Awake e = refl
 is_awake (wait.Sleep d n) e = absurd (cc e)
 is_awake (wait.Delay d) e = absurd (cc e)
 is_awake (wait.Calling c n) e = absurd (cc e)
+is_awake (wait.Joining j) e = absurd (cc e)
 
-pub calls_none : (w : Wait) → is_awake_in w ≡ true → call_in w ≡ None
-calls_none w e = ap call_in (is_awake w e)
+free_awake : (w : Wait) → is_awake_in w ≡ true → is_free w ≡ true
+free_awake w e = ap is_free (is_awake w e)
 
 -- ## What is left behind a move
-pub went_left : (nodes : List Node) (t : Task) → is_awake_in t.wait ≡ true → GoesNext nodes t.frames → (call_in t.wait ≡ None) × CanGoOn nodes t
-went_left nodes t e h = (calls_none t.wait e, subst (λ x. GoesFrom nodes x t.frames) (sym (is_awake t.wait e)) (going nodes (inner t.frames) h.0, h.1))
+pub went_left : (nodes : List Node) (t : Task) → is_awake_in t.wait ≡ true → GoesNext nodes t.frames → (is_free t.wait ≡ true) × CanGoOn nodes t
+went_left nodes t e h = (free_awake t.wait e, subst (λ x. GoesFrom nodes x t.frames) (sym (is_awake t.wait e)) (going nodes (inner t.frames) h.0, h.1))
 
 -- ## By itself
 -- a task that waits for nothing
-pub awake_local : (a : Around) (w : Wait) (fs : Frames) (x : Scopes) → is_awake_in w ≡ true → record (local_of a fs x) { wait = wait_view a w } ≡ local_of a fs x
-awake_local a w fs x e = ap (λ v. record (local_of a fs x) { wait = wait_view a v }) (is_awake w e)
+pub awake_local : (a : Around) (w : Wait) (fs : Frames) (x : Scopes) → is_awake_in w ≡ true → waiting a w (local_of a fs x) ≡ local_of a fs x
+awake_local a w fs x e = ap (λ v. waiting a v (local_of a fs x)) (is_awake w e)
+
+-- a task that stands in a parallel step, but for its control
+pub joining_local : (a : Around) (w : Wait) (fs : Frames) (x : Scopes) → is_joining w ≡ true → (c : List Item) × (waiting a w (local_of a fs x) ≡ beside c a fs x)
+joining_local a wait.Awake fs x e = absurd (cc e)
+joining_local a (wait.Sleep d n) fs x e = absurd (cc e)
+joining_local a (wait.Delay d) fs x e = absurd (cc e)
+joining_local a (wait.Calling c n) fs x e = absurd (cc e)
+joining_local a (wait.Joining j) fs x e = (control_in a.spots (wait.Joining j) (control_of a fs), refl)
 
 -- what it has logged, and then a move
-pub logged_local : (a : Around) (s : Scene) (w : Wait) (fs : Frames) (x : Scopes) (n : Moved) (e : Logged) (v : Went) → is_awake_in w ≡ true → IsLogged s n e v (local_of a fs x) → IsLogged s n e v (record (local_of a fs x) { wait = wait_view a w })
+pub logged_local : (a : Around) (s : Scene) (w : Wait) (fs : Frames) (x : Scopes) (n : Moved) (e : Logged) (v : Went) → is_awake_in w ≡ true → IsLogged s n e v (local_of a fs x) → IsLogged s n e v (waiting a w (local_of a fs x))
 logged_local a s w fs x n e v awake h = subst (IsLogged s n e v) (sym (awake_local a w fs x awake)) h
 
 -- where the move behind a log leads, as it does by itself

@@ -6,3 +6,5 @@ pub mod Retries
 pub mod Stepped
 pub mod Tasks
 pub mod Waits
+pub mod Branches
+pub mod Beginnings

@@ -22,7 +22,7 @@ use Rattle.wf_model.specs.Local.{Local, Moved, Scene, Ends, Fails, goes}
 use Rattle.wf_model.specs.Unwind as model
 use Rattle.wf_model.specs.Unwind.{Says, Asks, asks, decided, judged, policy_of, retried, unwind}
 use Rattle.wf_moves.specs.Moved.{GoesNext, IsEnd, IsWent}
-use Rattle.wf_moves.specs.Waits.{GoesFrom, call_in, wait_view}
+use Rattle.wf_moves.specs.Waits.{GoesFrom, is_free, waiting}
 use Rattle.wf_moves.specs.declared.judging.Decided.{Decided}
 use Rattle.wf_moves.specs.declared.judging.Decided.TheVariants as decision
 use Rattle.wf_moves.specs.declared.judging.Verdict.{Verdict}
@@ -121,7 +121,7 @@ AsksFlow a n t e = (f : Text) × (judged (policy_of (try_at a.spots t.node)) t.t
 abbrev pub IsLed : Around → Moved → Led → Local → Type 0
 IsLed a m led.Goes l = IsWent m l
 IsLed a m (led.Ended e) l = IsEnd m e l
-IsLed a m (led.Waits w) l = IsWent m (record l { wait = wait_view a w })
+IsLed a m (led.Waits w) l = IsWent m (waiting a w l)
 
 -- it is this one of the task, whatever the scene that has this last reading and agrees on the limit, the rest and the workflows
 abbrev pub LeadsBy : Around → ℕ → (Scene → Local → Moved) → Held → Led → Frames → Scopes → Type 0
@@ -131,7 +131,7 @@ LeadsBy a last m h d fs x = (s : Scene) (c : List Item) → s.last ≡ last → 
 abbrev pub IsLedSo : List Node → Led → Frames → Type 0
 IsLedSo nodes led.Goes fs = GoesNext nodes fs
 IsLedSo nodes (led.Ended e) fs = inner fs ≡ []
-IsLedSo nodes (led.Waits w) fs = (call_in w ≡ None) × GoesFrom nodes w fs
+IsLedSo nodes (led.Waits w) fs = (is_free w ≡ true) × GoesFrom nodes w fs
 
 -- ## What became of an error
 -- another error goes on from here, or the move leads so

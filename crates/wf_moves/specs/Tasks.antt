@@ -11,7 +11,10 @@ use Rattle.wf_frames.specs.Held.{Held, standing}
 use Rattle.wf_frames.specs.Owned.{Around, local_of}
 use Rattle.wf_frames.specs.Sights.{Sees}
 use Rattle.wf_frames.specs.Turns.{Agrees}
+use Rattle.wf_branches.specs.Changes.{new_join}
+use Rattle.wf_branches.specs.Steps.{join_of}
 use Rattle.wf_frames.specs.declared.facts.Facts.{Facts}
+use Rattle.wf_frames.specs.declared.forking.Fork.{Fork}
 use Rattle.wf_frames.specs.declared.frames.Frame.{Frame}
 use Rattle.wf_frames.specs.declared.frames.Frames.{Frames}
 use Rattle.wf_http_ask.specs.View.{request_view}
@@ -20,7 +23,8 @@ use Rattle.wf_model.specs.Local.{Breaks, Does, Goes, Local, Logs, Moved, Scene, 
 use Rattle.wf_model.specs.Run.{argument_in}
 use Rattle.wf_moves.specs.Moved.{IsEnd, IsLeft, IsMove, IsWent}
 use Rattle.wf_moves.specs.Requests.{Reaches}
-use Rattle.wf_moves.specs.Waits.{CanGoOn, GoesFrom, call_in, wait_view}
+use Rattle.wf_moves.specs.Waits.{CanGoOn, GoesFrom, call_in, is_free, is_joining, waiting}
+use Rattle.wf_moves.specs.declared.wait.Wait.TheVariants as wait
 use Rattle.wf_moves.specs.declared.finish.Awaits.{Awaits}
 use Rattle.wf_moves.specs.declared.finish.Awaits.TheVariants as awaits
 use Rattle.wf_moves.specs.declared.finish.Done.{Done}
@@ -62,6 +66,7 @@ pub record IsFlow (nodes : List Node) (n : ℕ) : Type 0 where
 pub record IsFirst (a : Around) (x : Scopes) : Type 0 where
   pub empty : layers_of x ≡ []
   pub keys : a.keys ≡ []
+  pub rest : a.rest ≡ []
   pub others : a.others ≡ 0
   pub limit : x.limit ≡ a.limit
 
@@ -116,6 +121,12 @@ IsLogged s (Breaks kind) x w l = Unit {0}
 IsLogged s (Does (Logs severity v) m) x w l = (severity ≡ x.severity) × (v ≡ plain x.value) × (depth (plain x.value) ≤ 100) × IsMove s m w l
 IsLogged s m x w l = ⊥
 
+-- the model's move, where it isn't one that no accepted program makes, into a parallel step with so many branches: none has begun
+abbrev pub IsForked : Moved → Fork → Local → Type 0
+IsForked (Breaks kind) f l = Unit {0}
+IsForked (Goes m) f l = (m ≡ l) × (join_of l.control ≡ Some (new_join f.total f.limit))
+IsForked m f l = ⊥
+
 -- the model's move behind a log
 abbrev pub IsBehind : Moved → Behind → Local → Type 0
 IsBehind m behind.Goes l = IsWent m l
@@ -133,6 +144,7 @@ MovesTo m None l = IsWent m l
 MovesTo m (Some (told.Ended e)) l = IsEnd m e l
 MovesTo m (Some (told.Sent x)) l = IsRequest m x.value l
 MovesTo m (Some (told.Logged x b)) l = HasLogged m x.value b l
+MovesTo m (Some (told.Forked f)) l = IsForked m f l
 
 -- which of the few a move has done, if it has done one
 abbrev pub told_in : Move → Option Told
@@ -149,17 +161,18 @@ is_told_sent t = false
 abbrev pub is_sent : Move → Bool
 is_sent d = is_told_sent (told_in d)
 
--- behind a log a task that goes on or waits can go on, and of one that has ended no frame is left
+-- behind a log a task that goes on or waits can go on, and stands in no parallel step; and of one that has ended no frame is left
 abbrev pub StaysBehind : List Node → Behind → Task → Type 0
-StaysBehind nodes behind.Goes t = (call_in t.wait ≡ None) × CanGoOn nodes t
+StaysBehind nodes behind.Goes t = (is_free t.wait ≡ true) × CanGoOn nodes t
 StaysBehind nodes (behind.Ended e) t = inner t.frames ≡ []
 
--- a task that goes on or waits can go on, and makes no request, and of one that has ended no frame is left
+-- a task that goes on or waits can go on, has made no request and stands in no parallel step; and of one that has ended no frame is left
 abbrev pub StaysTold : List Node → Option Told → Task → Type 0
-StaysTold nodes None t = (call_in t.wait ≡ None) × CanGoOn nodes t
+StaysTold nodes None t = (is_free t.wait ≡ true) × CanGoOn nodes t
 StaysTold nodes (Some (told.Ended e)) t = inner t.frames ≡ []
 StaysTold nodes (Some (told.Sent x)) t = (is_some (call_in t.wait) ≡ true) × CanGoOn nodes t
 StaysTold nodes (Some (told.Logged x b)) t = StaysBehind nodes b t
+StaysTold nodes (Some (told.Forked f)) t = (is_joining t.wait ≡ true) × CanGoOn nodes t
 
 abbrev pub Stays : List Node → Move → Task → Type 0
 Stays nodes d t = StaysTold nodes (told_in d) t
@@ -172,9 +185,10 @@ told_by (behind.Ended e) = Some (told.Ended e)
 -- ## Moves, requests and logs within a call
 -- the model's request, log or sleep, of a task that waits so
 abbrev pub IsAwaited : Around → Scene → Moved → Awaits → Local → Type 0
-IsAwaited a s m (awaits.Sent x w) l = IsRequest m x.value (record l { wait = wait_view a w })
+IsAwaited a s m (awaits.Sent x w) l = IsRequest m x.value (waiting a w l)
 IsAwaited a s m (awaits.Logged x w) l = IsLogged s m x.value w l
-IsAwaited a s m (awaits.Waits w) l = IsWent m (record l { wait = wait_view a w })
+IsAwaited a s m (awaits.Waits w) l = IsWent m (waiting a w l)
+IsAwaited a s m (awaits.Forks f j) l = IsForked m f (waiting a (wait.Joining j) l)
 
 -- the model's move, request or log, of a task that goes on so or waits
 abbrev pub IsDone : Around → Scene → Moved → Done → Local → Type 0
@@ -198,7 +212,8 @@ LogsBy a g m h d fs x = (s : Scene) (c : List Item) → Reaches s g → Agrees s
 abbrev pub IsAwaitedLeft : List Node → Awaits → Frames → Type 0
 IsAwaitedLeft nodes (awaits.Sent x w) fs = (is_some (call_in w) ≡ true) × GoesFrom nodes w fs
 IsAwaitedLeft nodes (awaits.Logged x w) fs = IsLeft nodes w fs
-IsAwaitedLeft nodes (awaits.Waits w) fs = (call_in w ≡ None) × GoesFrom nodes w fs
+IsAwaitedLeft nodes (awaits.Waits w) fs = (is_free w ≡ true) × GoesFrom nodes w fs
+IsAwaitedLeft nodes (awaits.Forks f j) fs = GoesFrom nodes (wait.Joining j) fs
 
 abbrev pub IsLeftSo : List Node → Done → Frames → Type 0
 IsLeftSo nodes done.Goes fs = IsLeft nodes went.Goes fs

@@ -6,7 +6,7 @@ ghost use Rattle.wf_model.specs.Layers as layers;
 ghost use Rattle.wf_model.specs.Leave as leave;
 ghost use Rattle.wf_model.specs.Move as move;
 ghost use Rattle.wf_frames.specs.Assigned.{values_of};
-ghost use Rattle.wf_frames.specs.Built.{Tells};
+ghost use Rattle.wf_frames.specs.Built.{IsTableOf};
 ghost use Rattle.wf_moves.specs.Moved.{IsLeft, MovesBy, SeesBy};
 ghost use Rattle.wf_model.specs.NodeKinds.{entry_by};
 ghost use Rattle.wf_model.specs.Spots.{part_at, part_entry};
@@ -35,7 +35,7 @@ pub(crate) fn store_value(
     scopes: &mut Scopes,
 ) -> Result<Went, OutOfMemory>
     ghost around: { Around }
-    requires tells { Tells around.spots nodes.now }
+    requires tells { IsTableOf around.spots nodes.now }
     requires stands { Stands around nodes.now frames.old scopes.old }
     ensures moved { IfOk result (λ w. MovesBy around
         (λ s l. leave.on_assigned s (control_of around frames.old) l
@@ -61,7 +61,7 @@ fn store(
     scopes: &mut Scopes,
 ) -> Result<Went, OutOfMemory>
     ghost around: { Around }
-    requires tells { Tells around.spots nodes.now }
+    requires tells { IsTableOf around.spots nodes.now }
     requires stands { Stands around nodes.now frames.old scopes.old }
     ensures moved { IfOk result (λ w. MovesBy around
         (λ s l. leave.on_assigned s (control_of around frames.old) l
@@ -89,7 +89,7 @@ fn assign_name(
     facts: &Facts,
 ) -> Result<Went, OutOfMemory>
     ghost around: { Around }
-    requires tells { Tells around.spots nodes.now }
+    requires tells { IsTableOf around.spots nodes.now }
     requires stands { Stands around nodes.now frames.old scopes.old }
     requires places { entry.now.places ≡ 0 }
     ensures moved { IfOk result (λ w. SeesBy around facts.entry.now
@@ -117,7 +117,7 @@ fn assign_places(
     facts: &Facts,
 ) -> Result<Went, OutOfMemory>
     ghost around: { Around }
-    requires tells { Tells around.spots nodes.now }
+    requires tells { IsTableOf around.spots nodes.now }
     requires stands { Stands around nodes.now frames.old scopes.old }
     ensures moved { IfOk result (λ w. SeesBy around facts.entry.now
         (λ s l. move.assigns s (entry_by codes.now entry.now) (control_of around frames.old) l)
@@ -143,7 +143,7 @@ pub(crate) fn assign(
     facts: &Facts,
 ) -> Result<Went, OutOfMemory>
     ghost around: { Around }
-    requires tells { Tells around.spots nodes.now }
+    requires tells { IsTableOf around.spots nodes.now }
     requires stands { Stands around nodes.now frames.old scopes.old }
     requires within { n < length nodes.now }
     ensures moved { IfOk result (λ w. SeesBy around facts.entry.now

@@ -13,7 +13,7 @@ ghost use Rattle.wf_model.specs.Unwind.{to_back};
 ghost use Rattle.wf_moves.specs.Moved.{IsBackTop, IsLeft, MovesBy, SaysSo, back_found, call_of, is_judge};
 ghost use Rattle.wf_model.specs.Spots.{Spot};
 ghost use Rattle.wf_model.specs.declared.node.Node.{Node};
-ghost use Rattle.wf_frames.specs.Built.{Tells};
+ghost use Rattle.wf_frames.specs.Built.{IsTableOf};
 ghost use Rattle.wf_value.specs.Data.{depth};
 ghost use Rattle.wf_value.specs.Plain.{plain};
 
@@ -85,7 +85,7 @@ fn says(alloc: Global, value: &Value) -> Result<Went, OutOfMemory>
 /// The variable that takes what a call gives.
 fn result_of(nodes: &[Node], call: Option<u32>) -> Option<&Name>
     ghost ns: { List Spot }
-    requires tells { Tells ns nodes.now }
+    requires tells { IsTableOf ns nodes.now }
     requires call { IsCallOf nodes.now call }
     ensures { option_copied result ≡ result_of ns call }
 {
@@ -109,7 +109,7 @@ pub(crate) fn give(
     scopes: &mut Scopes,
 ) -> Result<Went, OutOfMemory>
     ghost around: { Around }
-    requires tells { Tells around.spots nodes.now }
+    requires tells { IsTableOf around.spots nodes.now }
     requires stands { Stands around nodes.now frames.old scopes.old }
     requires call { IsCallOf nodes.now call }
     ensures moved { IfOk result (λ w. MovesBy around
@@ -134,7 +134,7 @@ pub(crate) fn returns(
     value: Value,
 ) -> Result<Went, OutOfMemory>
     ghost around: { Around }
-    requires tells { Tells around.spots nodes.now }
+    requires tells { IsTableOf around.spots nodes.now }
     requires stands { Stands around nodes.now frames.old scopes.old }
     requires shallow { depth (plain value) ≤ 100 }
     ensures moved { IfOk result (λ w. MovesBy around

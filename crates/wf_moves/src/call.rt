@@ -10,7 +10,7 @@ ghost use Rattle.wf_moves.specs.Moved.{IsLeft, MovesBy, SeesBy};
 ghost use Rattle.wf_moves.specs.Tasks.{DoesBy, IsFlow, IsLeftSo, Names, flow_at};
 ghost use Rattle.wf_model.specs.Spots.{part_at, part_body};
 ghost use Rattle.wf_model.specs.declared.node.CallNode as call_node;
-ghost use Rattle.wf_frames.specs.Built.{AreTargets, IsFunction, IsWorkflow, Tells};
+ghost use Rattle.wf_frames.specs.Built.{AreTargets, IsFunction, IsWorkflow, IsTableOf};
 ghost use Rattle.wf_moves.specs.Stepped.{leads_with};
 ghost use Rattle.wf_frames.specs.Steps.{calls_by};
 ghost use Rattle.wf_value.specs.Data.{pairs_depth, pairs_of};
@@ -43,7 +43,7 @@ fn begin(
     scopes: &mut Scopes,
 ) -> Result<Went, OutOfMemory>
     ghost around: { Around }
-    requires tells { Tells around.spots nodes.now }
+    requires tells { IsTableOf around.spots nodes.now }
     requires stands { Stands around nodes.now frames.old scopes.old }
     requires call { (f : call_node.CallNode) × IsCall nodes.now n f }
     requires flow { IsFlow nodes.now flow }
@@ -79,7 +79,7 @@ fn call_flow(
     scopes: &mut Scopes,
 ) -> Result<Went, OutOfMemory>
     ghost around: { Around }
-    requires tells { Tells around.spots nodes.now }
+    requires tells { IsTableOf around.spots nodes.now }
     requires stands { Stands around nodes.now frames.old scopes.old }
     requires names { Names nodes.now n (IsWorkflow around.flows around.spots flow) }
     ensures moved { IfOk result (λ w. MovesBy around
@@ -107,7 +107,7 @@ fn evaluates(
     facts: &Facts,
 ) -> Result<Went, OutOfMemory>
     ghost around: { Around }
-    requires tells { Tells around.spots nodes.now }
+    requires tells { IsTableOf around.spots nodes.now }
     requires stands { Stands around nodes.now frames.old scopes.old }
     requires names { Names nodes.now n (IsFunction around.flows function.now) }
     ensures moved { IfOk result (λ w. SeesBy around facts.entry.now
@@ -137,7 +137,7 @@ pub(crate) fn call(
     sending: &Sending,
 ) -> Result<Done, OutOfMemory>
     ghost around: { Around }
-    requires tells { Tells around.spots nodes.now }
+    requires tells { IsTableOf around.spots nodes.now }
     requires targets { AreTargets around.flows around.spots nodes.now targets.now }
     requires stands { Stands around nodes.now frames.old scopes.old }
     requires call { (f : call_node.CallNode) × IsCall nodes.now n f }

@@ -7,17 +7,17 @@ ghost use Rattle.wf_frames.specs.Stands.{Stands};
 ghost use Rattle.wf_model.specs.Config.{Item};
 ghost use Rattle.wf_model.specs.Local as local;
 ghost use Rattle.wf_model.specs.Local.{Local, Moved, Scene};
-ghost use Rattle.wf_frames.specs.Built.{Tells};
+ghost use Rattle.wf_frames.specs.Built.{IsTableOf};
 ghost use Rattle.wf_moves.specs.Moved.{IsLeft, IsMove, IsSettled, IsThrough, turned_in};
 ghost use Rattle.wf_moves.specs.Tasks.{IsDone, IsLeftSo};
 ghost use Rattle.wf_frames.specs.declared.frames.Frames.{Frames};
 ghost use Rattle.wf_model.specs.declared.node.Node.{Node};
 
 use crate::sending::Sent;
-use crate::wait::Wait;
+use crate::wait::{Joining, Wait};
 use std::alloc::Global;
 use wf_ast::boxed;
-use wf_frames::{Frames, Next, leave, next_in};
+use wf_frames::{Fork, Frames, Next, leave, next_in};
 use wf_model::Node;
 use wf_scope::Scopes;
 use wf_sys_ask::Logged;
@@ -66,6 +66,8 @@ pub(crate) enum Awaits {
     /// This was logged, and the move gives this then.
     Logged(Box<Logged>, Went),
     Waits(Wait),
+    /// The branches of a parallel step, of which there are so many.
+    Forks(Fork, Box<Joining>),
 }
 
 /// What a move of any kind gives: as `Went`, or what few of them wait for, in a box too.
@@ -97,7 +99,7 @@ pub(crate) fn done_of(went: Went) -> Done
 #[inline(always)]
 pub(crate) fn settle(frames: &mut Frames, nodes: &[Node], scopes: &mut Scopes)
     ghost around: { Around }
-    requires tells { Tells around.spots nodes.now }
+    requires tells { IsTableOf around.spots nodes.now }
     requires stands { Stands around nodes.now frames.old scopes.old }
     ensures stands { Stands around nodes.now frames.new scopes.new }
     ensures settled { IsSettled nodes.now (inner frames.new) }
@@ -120,7 +122,7 @@ pub(crate) fn settle(frames: &mut Frames, nodes: &[Node], scopes: &mut Scopes)
 #[inline(always)]
 pub(crate) fn goes(frames: &mut Frames, nodes: &[Node], scopes: &mut Scopes) -> Went
     ghost around: { Around }
-    requires tells { Tells around.spots nodes.now }
+    requires tells { IsTableOf around.spots nodes.now }
     requires stands { Stands around nodes.now frames.old scopes.old }
     ensures stands { Stands around nodes.now frames.new scopes.new }
     ensures left { IsLeft nodes.now result frames.new }

@@ -12,7 +12,7 @@ ghost use Rattle.wf_moves.specs.Retries.{DecidesBy, Asked, AsksFlow, IsDecidedSo
 ghost use Rattle.wf_moves.specs.Tasks.{part_params};
 ghost use Rattle.wf_moves.specs.Waits.{is_at_try};
 ghost use Rattle.wf_model.specs.Spots.{part_at};
-ghost use Rattle.wf_frames.specs.Built.{AreTargets, Tells};
+ghost use Rattle.wf_frames.specs.Built.{AreTargets, IsTableOf};
 ghost use Rattle.wf_value.specs.Data.{depth};
 ghost use Rattle.wf_value.specs.Plain.{plain};
 
@@ -82,7 +82,7 @@ pub(crate) fn retry(
     scopes: &mut Scopes,
 ) -> Result<Led, OutOfMemory>
     ghost around: { Around }
-    requires tells { Tells around.spots nodes.now }
+    requires tells { IsTableOf around.spots nodes.now }
     requires stands { Stands around nodes.now frames.old scopes.old }
     requires at { TriedAt around.spots nodes.now tried (inner frames.old) }
     ensures moved { IfOk result (λ d. LeadsBy around last
@@ -118,7 +118,7 @@ pub(crate) fn try_again(
     scopes: &mut Scopes,
 ) -> Result<Went, OutOfMemory>
     ghost around: { Around }
-    requires tells { Tells around.spots nodes.now }
+    requires tells { IsTableOf around.spots nodes.now }
     requires stands { Stands around nodes.now frames.old scopes.old }
     requires top { is_at_try (inner frames.old) ≡ true }
     ensures moved { IfOk result (λ w. MovesBy around
@@ -159,7 +159,7 @@ fn question(
     scopes: &mut Scopes,
 ) -> Result<Decided, OutOfMemory>
     ghost around: { Around }
-    requires tells { Tells around.spots nodes.now }
+    requires tells { IsTableOf around.spots nodes.now }
     requires asked { AsksFlow around flow tried (plain error) }
     requires stands { Stands around nodes.now frames.old scopes.old }
     requires at { TriedAt around.spots nodes.now tried (inner frames.old) }
@@ -203,7 +203,7 @@ fn ask(
     scopes: &mut Scopes,
 ) -> Result<Decided, OutOfMemory>
     ghost around: { Around }
-    requires tells { Tells around.spots nodes.now }
+    requires tells { IsTableOf around.spots nodes.now }
     requires asked { Asked around targets.now tried (plain error) }
     requires stands { Stands around nodes.now frames.old scopes.old }
     requires at { TriedAt around.spots nodes.now tried (inner frames.old) }
@@ -243,7 +243,7 @@ pub(crate) fn decide(
     scopes: &mut Scopes,
 ) -> Result<Decided, OutOfMemory>
     ghost around: { Around }
-    requires tells { Tells around.spots nodes.now }
+    requires tells { IsTableOf around.spots nodes.now }
     requires targets { AreTargets around.flows around.spots nodes.now targets.now }
     requires stands { Stands around nodes.now frames.old scopes.old }
     requires at { TriedAt around.spots nodes.now tried (inner frames.old) }

@@ -9,7 +9,7 @@ ghost use Rattle.wf_model.specs.Leave as leave;
 ghost use Rattle.wf_model.specs.Local.{Scene};
 ghost use Rattle.wf_model.specs.Unwind.{to_loop, to_step};
 ghost use Rattle.wf_model.specs.Unwind as found;
-ghost use Rattle.wf_frames.specs.Built.{Tells};
+ghost use Rattle.wf_frames.specs.Built.{IsTableOf};
 ghost use Rattle.wf_moves.specs.Moved.{FoundIn, IsLeft, IsLoopTop, IsMove, MovesBy, is_loop, loop_found, target};
 ghost use Rattle.wf_frames.specs.Steps.{IsJump};
 ghost use Rattle.wf_model.specs.Spots.{part_at, part_next};
@@ -74,7 +74,7 @@ fn target(frame: &Frame, nodes: &[Node], keep: u32) -> Option<u32>
 /// The frames inside a jump's list are left, and that of the list itself. It gives the number of the list's node.
 fn leave_to(frames: &mut Frames, nodes: &[Node], scopes: &mut Scopes, jump: Jump) -> Option<u32>
     ghost around: { Around }
-    requires tells { Tells around.spots nodes.now }
+    requires tells { IsTableOf around.spots nodes.now }
     requires stands { Stands around nodes.now frames.old scopes.old }
     ensures list { IfSome result (λ n. is_some (list_at nodes.now n) ≡ true) }
     ensures inside { IfSome result (λ n. outside_at around.spots nodes.now n
@@ -104,7 +104,7 @@ fn jump_to(
     jump: Jump,
 ) -> Result<(), OutOfMemory>
     ghost around: { Around }
-    requires tells { Tells around.spots nodes.now }
+    requires tells { IsTableOf around.spots nodes.now }
     requires stands { Stands around nodes.now frames.old scopes.old }
     requires leads { (x : Text)
         × Leads around.spots (views nodes.now) x (Some jump) (reach (inner frames.old)) }
@@ -159,7 +159,7 @@ fn leave_to_loop(frames: &mut Frames, scopes: &mut Scopes)
 /// `continue`: the innermost loop goes on, or the iteration of a parallel loop ends.
 fn go_on_loop(frames: &mut Frames, nodes: &[Node], scopes: &mut Scopes) -> Went
     ghost around: { Around }
-    requires tells { Tells around.spots nodes.now }
+    requires tells { IsTableOf around.spots nodes.now }
     requires stands { Stands around nodes.now frames.old scopes.old }
     ensures moved { (s : Scene) (c : List Item)
         → IsMove s (leave.continues s (beside c around frames.old scopes.old)
@@ -175,7 +175,7 @@ fn go_on_loop(frames: &mut Frames, nodes: &[Node], scopes: &mut Scopes) -> Went
 /// `break`: the innermost loop ends.
 fn end_loop(frames: &mut Frames, nodes: &[Node], scopes: &mut Scopes) -> Went
     ghost around: { Around }
-    requires tells { Tells around.spots nodes.now }
+    requires tells { IsTableOf around.spots nodes.now }
     requires stands { Stands around nodes.now frames.old scopes.old }
     ensures moved { (s : Scene) (c : List Item)
         → IsMove s (leave.breaks (to_loop (control_of around frames.old)
@@ -196,7 +196,7 @@ fn go_to(
     jump: Option<Jump>,
 ) -> Result<Went, OutOfMemory>
     ghost around: { Around }
-    requires tells { Tells around.spots nodes.now }
+    requires tells { IsTableOf around.spots nodes.now }
     requires stands { Stands around nodes.now frames.old scopes.old }
     requires leads { (x : Text)
         × Leads around.spots (views nodes.now) x jump (reach (inner frames.old)) }
@@ -226,7 +226,7 @@ pub(crate) fn jump(
     n: u32,
 ) -> Result<Went, OutOfMemory>
     ghost around: { Around }
-    requires tells { Tells around.spots nodes.now }
+    requires tells { IsTableOf around.spots nodes.now }
     requires stands { Stands around nodes.now frames.old scopes.old }
     requires jump { IsJump around.spots nodes.now n (inner frames.old) }
     ensures moved { IfOk result (λ w. MovesBy around

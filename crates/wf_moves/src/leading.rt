@@ -11,7 +11,7 @@ ghost use Rattle.wf_model.specs.Local.{Moved, Scene};
 ghost use Rattle.wf_model.specs.Unwind.{unwind};
 ghost use Rattle.wf_moves.specs.Moved.{IsJudgeTop, IsLeft, IsMove, IsTurned, IsTurnedLeft};
 ghost use Rattle.wf_moves.specs.Retries.{IsAskedOn, IsLed, IsLedSo, LeadsBy};
-ghost use Rattle.wf_frames.specs.Built.{AreTargets, Tells};
+ghost use Rattle.wf_frames.specs.Built.{AreTargets, IsTableOf};
 ghost use Rattle.wf_value.specs.Data.{boolean, depth};
 ghost use Rattle.wf_value.specs.Plain.{plain};
 
@@ -36,7 +36,7 @@ pub(crate) enum Led {
 /// The task goes on behind what has ended, or has ended itself.
 pub(crate) fn lead_on(frames: &mut Frames, nodes: &[Node], scopes: &mut Scopes) -> Led
     ghost around: { Around }
-    requires tells { Tells around.spots nodes.now }
+    requires tells { IsTableOf around.spots nodes.now }
     requires stands { Stands around nodes.now frames.old scopes.old }
     ensures stands { Stands around nodes.now frames.new scopes.new }
     ensures left { IsLedSo nodes.now result frames.new }
@@ -63,7 +63,7 @@ fn outward(
     error: Value,
 ) -> Result<Led, OutOfMemory>
     ghost around: { Around }
-    requires tells { Tells around.spots nodes.now }
+    requires tells { IsTableOf around.spots nodes.now }
     requires targets { AreTargets around.flows around.spots nodes.now targets.now }
     requires stands { Stands around nodes.now frames.old scopes.old }
     requires shallow { depth (plain error) ≤ 100 }
@@ -115,7 +115,7 @@ fn answered(
     yes: bool,
 ) -> Result<Led, OutOfMemory>
     ghost around: { Around }
-    requires tells { Tells around.spots nodes.now }
+    requires tells { IsTableOf around.spots nodes.now }
     requires targets { AreTargets around.flows around.spots nodes.now targets.now }
     requires stands { Stands around nodes.now frames.old scopes.old }
     requires top { IsJudgeTop (inner frames.old) }
@@ -148,7 +148,7 @@ fn lead_turned(
     scopes: &mut Scopes,
 ) -> Result<Led, OutOfMemory>
     ghost around: { Around }
-    requires tells { Tells around.spots nodes.now }
+    requires tells { IsTableOf around.spots nodes.now }
     requires targets { AreTargets around.flows around.spots nodes.now targets.now }
     requires stands { Stands around nodes.now frames.old scopes.old }
     requires left { IsTurnedLeft by (inner frames.old) }
@@ -176,7 +176,7 @@ pub(crate) fn lead(
     scopes: &mut Scopes,
 ) -> Result<Led, OutOfMemory>
     ghost around: { Around }
-    requires tells { Tells around.spots nodes.now }
+    requires tells { IsTableOf around.spots nodes.now }
     requires targets { AreTargets around.flows around.spots nodes.now targets.now }
     requires stands { Stands around nodes.now frames.old scopes.old }
     requires left { IsLeft nodes.now went frames.old }

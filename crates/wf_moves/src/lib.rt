@@ -7,10 +7,13 @@
 
 mod assign;
 mod back;
+mod branch;
 mod call;
 mod finish;
+mod forking;
 mod judging;
 mod jump;
+mod laws;
 mod leading;
 mod logging;
 mod moves;
@@ -23,8 +26,11 @@ mod turn;
 mod unwind;
 mod wait;
 
+pub use branch::Begun;
 pub use finish::End;
+pub use laws::{begins_as_steps_do, joins_as_steps_do};
 pub use logging::Behind;
 pub use sending::{Sending, Sent};
 pub use task::{Move, Task, Told};
+pub use wf_frames::Fork;
 pub use wf_sys_ask::Logged;

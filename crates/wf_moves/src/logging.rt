@@ -4,7 +4,7 @@ ghost use Rattle.wf_frames.specs.Owned.{Around, control_of, held_by};
 ghost use Rattle.wf_frames.specs.Stands.{Stands};
 ghost use Rattle.wf_moves.specs.Tasks.{IsLeftSo, LogsBy, Names};
 ghost use Rattle.wf_model.specs.Spots.{part_at, part_body};
-ghost use Rattle.wf_frames.specs.Built.{IsLog, Tells};
+ghost use Rattle.wf_frames.specs.Built.{IsLog, IsTableOf};
 ghost use Rattle.wf_frames.specs.Steps.{calls_by};
 ghost use Rattle.wf_value.specs.Data.{pairs_depth, pairs_of};
 
@@ -38,7 +38,7 @@ pub(crate) fn logs(
     sending: &Sending,
 ) -> Result<Done, OutOfMemory>
     ghost around: { Around }
-    requires tells { Tells around.spots nodes.now }
+    requires tells { IsTableOf around.spots nodes.now }
     requires stands { Stands around nodes.now frames.old scopes.old }
     requires names { Names nodes.now n (IsLog around.flows) }
     requires shallow { pairs_depth (pairs_of args.now) ≤ 100 }

@@ -7,13 +7,14 @@ ghost use Rattle.wf_frames.specs.Stands.{Stands};
 ghost use Rattle.wf_moves.specs.Moved.{GoesNext};
 ghost use Rattle.wf_moves.specs.Stepped.{leads, leads_to, stepped_at};
 ghost use Rattle.wf_moves.specs.Tasks.{DoesBy, IsLeftSo};
-ghost use Rattle.wf_frames.specs.Built.{AreTargets, Tells};
+ghost use Rattle.wf_frames.specs.Built.{AreTargets, IsTableOf};
 ghost use Rattle.wf_frames.specs.Steps.{AreFit, HasStepOnTop, IsReady};
 
 use crate::assign::assign;
 use crate::back::returns;
 use crate::call::call;
 use crate::finish::{Done, Turned, done_of, goes, turns};
+use crate::forking::fork;
 use crate::jump::jump;
 use crate::sending::Sending;
 use crate::turn::turn;
@@ -37,7 +38,7 @@ fn finish_with(
     sending: &Sending,
 ) -> Result<Done, OutOfMemory>
     ghost around: { Around }
-    requires tells { Tells around.spots nodes.now }
+    requires tells { IsTableOf around.spots nodes.now }
     requires targets { AreTargets around.flows around.spots nodes.now targets.now }
     requires stands { Stands around nodes.now frames.old scopes.old }
     requires fit { AreFit nodes.now by }
@@ -53,6 +54,7 @@ fn finish_with(
         Leads::Calls(n, args) => call(
             alloc, nodes, targets, n, &args, frames, scopes, facts, sending,
         ),
+        Leads::Forks(n) => fork(alloc, nodes, n, frames, scopes, facts),
     }
 }
 
@@ -69,7 +71,7 @@ fn finish_step(
     sending: &Sending,
 ) -> Result<Done, OutOfMemory>
     ghost around: { Around }
-    requires tells { Tells around.spots nodes.now }
+    requires tells { IsTableOf around.spots nodes.now }
     requires targets { AreTargets around.flows around.spots nodes.now targets.now }
     requires stands { Stands around nodes.now frames.old scopes.old }
     requires ready { IsReady around.spots nodes.now (inner frames.old) step }
@@ -102,7 +104,7 @@ fn step_on(
     sending: &Sending,
 ) -> Result<Done, OutOfMemory>
     ghost around: { Around }
-    requires tells { Tells around.spots nodes.now }
+    requires tells { IsTableOf around.spots nodes.now }
     requires targets { AreTargets around.flows around.spots nodes.now targets.now }
     requires stands { Stands around nodes.now frames.old scopes.old }
     requires step { HasStepOnTop nodes.now (inner frames.old) }
@@ -130,7 +132,7 @@ pub(crate) fn advance(
     sending: &Sending,
 ) -> Result<Done, OutOfMemory>
     ghost around: { Around }
-    requires tells { Tells around.spots nodes.now }
+    requires tells { IsTableOf around.spots nodes.now }
     requires targets { AreTargets around.flows around.spots nodes.now targets.now }
     requires stands { Stands around nodes.now frames.old scopes.old }
     requires going { GoesNext nodes.now frames.old }

@@ -6,7 +6,7 @@ ghost use Rattle.wf_frames.specs.Stands.{Stands};
 ghost use Rattle.wf_moves.specs.Requests.{request_by, sent_view};
 ghost use Rattle.wf_moves.specs.Tasks.{DoesBy, IsLeftSo, Names};
 ghost use Rattle.wf_model.specs.Spots.{part_at, part_body};
-ghost use Rattle.wf_frames.specs.Built.{IsHttp, Tells};
+ghost use Rattle.wf_frames.specs.Built.{IsHttp, IsTableOf};
 ghost use Rattle.wf_frames.specs.Steps.{asks_with};
 ghost use Rattle.wf_value.specs.Data.{pairs_depth, pairs_of};
 
@@ -82,7 +82,7 @@ pub(crate) fn sends(
     sending: &Sending,
 ) -> Result<Done, OutOfMemory>
     ghost around: { Around }
-    requires tells { Tells around.spots nodes.now }
+    requires tells { IsTableOf around.spots nodes.now }
     requires stands { Stands around nodes.now frames.old scopes.old }
     requires names { Names nodes.now n (IsHttp around.flows method) }
     requires shallow { pairs_depth (pairs_of args.now) ≤ 100 }

@@ -6,7 +6,7 @@ ghost use Rattle.wf_frames.specs.Stands.{Stands};
 ghost use Rattle.wf_moves.specs.Naps.{nap_due};
 ghost use Rattle.wf_moves.specs.Tasks.{IsLeftSo, Names, SleepsBy};
 ghost use Rattle.wf_model.specs.Spots.{part_at, part_body};
-ghost use Rattle.wf_frames.specs.Built.{IsNap, Tells};
+ghost use Rattle.wf_frames.specs.Built.{IsNap, IsTableOf};
 ghost use Rattle.wf_frames.specs.Steps.{calls_by};
 ghost use Rattle.wf_value.specs.Data.{pairs_of};
 
@@ -44,7 +44,7 @@ pub(crate) fn sleeps(
     facts: &Facts,
 ) -> Result<Done, OutOfMemory>
     ghost around: { Around }
-    requires tells { Tells around.spots nodes.now }
+    requires tells { IsTableOf around.spots nodes.now }
     requires stands { Stands around nodes.now frames.old scopes.old }
     requires names { Names nodes.now n (IsNap around.flows nap) }
     ensures moved { IfOk result (λ d. SleepsBy around facts.entry.now

@@ -4,7 +4,7 @@ ghost use Rattle.wf_ast.specs.View.{param_view};
 ghost use Rattle.wf_frames.specs.Frames.{own};
 ghost use Rattle.wf_frames.specs.Held.{standing};
 ghost use Rattle.wf_frames.specs.Owned.{Around, IsLinked, held_of};
-ghost use Rattle.wf_frames.specs.Built.{Tells};
+ghost use Rattle.wf_frames.specs.Built.{IsTableOf};
 ghost use Rattle.wf_moves.specs.Tasks.{IsFirst, IsFlow, argued, begun, part_params};
 ghost use Rattle.wf_model.specs.Spots.{Spot, part_at};
 ghost use Rattle.wf_scope.specs.Layers.{IsLive};
@@ -20,7 +20,7 @@ use wf_value::{OutOfMemory, Value};
 /// The parameters of a workflow.
 pub(crate) fn params(nodes: &[Node], flow: u32) -> &[Param]
     ghost ns: { List Spot }
-    requires tells { Tells ns nodes.now }
+    requires tells { IsTableOf ns nodes.now }
     requires start { IsFlow nodes.now flow }
     ensures { map param_view result.now ≡ part_params (part_at ns flow) }
 {

@@ -1,5 +1,5 @@
 // Tasks.
-ghost use Rattle.std.specs.Prelude.{◌≡◌, ◌≤◌, IfErr, IfOk, OnOk, Some, false, is_some, true};
+ghost use Rattle.std.specs.Prelude.{◌≡◌, ◌≤◌, IfErr, IfOk, IfSome, OnOk, Some, false, is_some, option_map, true};
 ghost use Rattle.wf_frames.specs.Fits.{Fits};
 ghost use Rattle.wf_frames.specs.Foreseen.{Foresees};
 ghost use Rattle.wf_frames.specs.Frames.{inner};
@@ -8,7 +8,7 @@ ghost use Rattle.wf_frames.specs.Sights.{Sees};
 ghost use Rattle.wf_frames.specs.Stands.{Stands};
 ghost use Rattle.wf_frames.specs.Turns.{Agrees};
 ghost use Rattle.wf_model.specs.Local.{Moved, Scene};
-ghost use Rattle.wf_frames.specs.Built.{AreTargets, Tells};
+ghost use Rattle.wf_frames.specs.Built.{AreTargets, IsTableOf};
 ghost use Rattle.wf_moves.specs.Moved.{IsLeft, IsMove, IsSettled};
 ghost use Rattle.wf_moves.specs.Tasks.{told_by, told_in};
 ghost use Rattle.wf_model.specs.Spots.{part_at};
@@ -16,7 +16,7 @@ ghost use Rattle.wf_value.specs.Data.{depth};
 ghost use Rattle.wf_value.specs.Plain.{plain};
 
 use crate::back::give;
-use crate::finish::{Awaits, Done, End, Turned, Went, settle, turns};
+use crate::finish::{Awaits, Done, End, Turned, Went, goes, settle, turns};
 use crate::judging::try_again;
 use crate::leading::{Led, lead};
 use crate::logging::Behind;
@@ -26,7 +26,7 @@ use crate::start::{first_layer, params};
 use crate::wait::Wait;
 use std::alloc::Global;
 use wf_ast::boxed;
-use wf_frames::{Facts, Frame, Frames, Kind, Target, Wants, next_kind};
+use wf_frames::{Facts, Fork, Frame, Frames, Kind, Target, Wants, next_kind};
 use wf_model::Node;
 use wf_scope::Scopes;
 use wf_sys_ask::Logged;
@@ -41,6 +41,8 @@ pub enum Told {
     Sent(Box<Sent>),
     /// It has logged a value, and goes on, or waits for its next try, or has ended.
     Logged(Box<Logged>, Behind),
+    /// It stands in a parallel step, of which no branch has begun.
+    Forked(Fork),
 }
 
 /// What a move has done. Of nearly all there is nothing to tell, so the rest stands in a box: what is handed on is small.
@@ -73,7 +75,7 @@ fn move_by(alloc: Global, behind: Behind) -> Result<Move, OutOfMemory>
 /// A task: what it has still to do, the layers of its own, and what it waits for.
 #[derive(Drop)]
 pub struct Task {
-    alloc: Global,
+    pub(crate) alloc: Global,
     pub(crate) frames: Frames,
     pub(crate) wait: Wait,
 }
@@ -88,7 +90,8 @@ impl Task {
     ghost use Rattle.wf_moves.specs.Requests.{Reaches};
     ghost use Rattle.wf_moves.specs.Stepped.{stepped};
     ghost use Rattle.wf_moves.specs.Tasks.{IsAwaited, IsAwaitedLeft, IsBehind, IsFirst, IsFlow, MovesSo, Stays, StaysBehind, first, has_ended, is_sent};
-    ghost use Rattle.wf_moves.specs.Waits.{CanGoOn, answer_view, call_in, is_awake_in, is_call_at, moment_in, result_in, task_local};
+    ghost use Rattle.wf_moves.specs.Waits.{CanGoOn, answer_view, call_in, is_awake_in, is_call_at, is_joining, moment_in, result_in, task_local};
+    ghost use Rattle.wf_moves.specs.Branches.{joins_with};
 
     /// The first task, awake, which stands before the steps of a workflow: that of the node with this number. Its first layer is made, and holds
     /// the argument where the workflow has a parameter. Without memory, or where the argument passes the limit on variables, there is no
@@ -101,7 +104,7 @@ impl Task {
         scopes: &mut Scopes,
     ) -> Result<Task, OutOfMemory>
         ghost around: { Around }
-        requires tells { Tells around.spots nodes.now }
+        requires tells { IsTableOf around.spots nodes.now }
         requires start { IsFlow nodes.now flow }
         requires first { IsFirst around scopes.old }
         ensures begins { IfOk result (λ t. first (part_at around.spots flow) (plain argument)
@@ -136,7 +139,7 @@ impl Task {
     #[inline(always)]
     pub fn next_kind(&self, nodes: &[Node], wants: &[Wants]) -> Kind
         ghost around: { Around }
-        requires tells { Tells around.spots nodes.now }
+        requires tells { IsTableOf around.spots nodes.now }
         requires fits { Fits around.spots nodes.now (inner self.now.frames) }
         requires going { CanGoOn nodes.now self.now }
         requires awake { is_awake_in self.now.wait ≡ true }
@@ -153,7 +156,7 @@ impl Task {
         ensures { result ≡ call_in self.now.wait }
     {
         match self.wait {
-            Wait::Awake | Wait::Sleep { .. } | Wait::Delay { .. } => None,
+            Wait::Awake | Wait::Sleep { .. } | Wait::Delay { .. } | Wait::Joining(_) => None,
             Wait::Calling { call, .. } => Some(call),
         }
     }
@@ -163,7 +166,7 @@ impl Task {
         ensures { result ≡ moment_in self.now.wait }
     {
         match self.wait {
-            Wait::Awake | Wait::Calling { .. } => None,
+            Wait::Awake | Wait::Calling { .. } | Wait::Joining(_) => None,
             Wait::Sleep { due, .. } | Wait::Delay { due } => Some(due),
         }
     }
@@ -175,6 +178,7 @@ impl Task {
         match self.wait {
             Wait::Awake => true,
             Wait::Sleep { .. } | Wait::Delay { .. } | Wait::Calling { .. } => false,
+            Wait::Joining(_) => false,
         }
     }
 
@@ -190,7 +194,7 @@ impl Task {
         sending: &Sending,
     ) -> Result<Move, OutOfMemory>
         ghost around: { Around }
-        requires tells { Tells around.spots nodes.now }
+        requires tells { IsTableOf around.spots nodes.now }
         requires targets { AreTargets around.flows around.spots nodes.now targets.now }
         requires stands { Stands around nodes.now self.old.frames scopes.old }
         requires going { CanGoOn nodes.now self.old }
@@ -237,7 +241,7 @@ impl Task {
         awaits: Awaits,
     ) -> Result<Move, OutOfMemory>
         ghost around: { Around }
-        requires tells { Tells around.spots nodes.now }
+        requires tells { IsTableOf around.spots nodes.now }
         requires targets { AreTargets around.flows around.spots nodes.now targets.now }
         requires stands { Stands around nodes.now self.old.frames scopes.old }
         requires left { IsAwaitedLeft nodes.now awaits self.old.frames }
@@ -262,6 +266,10 @@ impl Task {
                 let behind = self.stand(nodes, targets, scopes, facts, went)?;
                 tell(self.alloc, Told::Logged(entry, behind))
             }
+            Awaits::Forks(fork, joining) => {
+                self.wait = Wait::Joining(joining);
+                tell(self.alloc, Told::Forked(fork))
+            }
         }
     }
 
@@ -276,7 +284,7 @@ impl Task {
         facts: &Facts,
     ) -> Result<Move, OutOfMemory>
         ghost around: { Around }
-        requires tells { Tells around.spots nodes.now }
+        requires tells { IsTableOf around.spots nodes.now }
         requires targets { AreTargets around.flows around.spots nodes.now targets.now }
         requires stands { Stands around nodes.now self.old.frames scopes.old }
         requires going { CanGoOn nodes.now self.old }
@@ -302,6 +310,43 @@ impl Task {
         }
     }
 
+    /// It goes on behind the parallel step in which it stands, whose branches have all ended, or with the error that they have left. Without
+    /// memory the task and the layers are left in any state, and are only to be let go.
+    pub fn join(
+        &mut self,
+        nodes: &[Node],
+        targets: &[Target],
+        scopes: &mut Scopes,
+        error: Option<Value>,
+        facts: &Facts,
+    ) -> Result<Move, OutOfMemory>
+        ghost around: { Around }
+        requires tells { IsTableOf around.spots nodes.now }
+        requires targets { AreTargets around.flows around.spots nodes.now targets.now }
+        requires stands { Stands around nodes.now self.old.frames scopes.old }
+        requires joins { is_joining self.old.wait ≡ true }
+        requires shallow { IfSome error (λ e. depth (plain e) ≤ 100) }
+        ensures moved { IfOk result (λ m. (s : Scene) → Sees s facts.entry.now → Agrees s around
+            → MovesSo (joins_with s (option_map plain error)
+            (control_of around self.old.frames) (task_local around self.old scopes.old)) m
+            (task_local around self.new scopes.new)) }
+        ensures stands { OnOk result (Stands around nodes.now self.new.frames scopes.new) }
+        ensures left { IfOk result (λ m. Stays nodes.now m self.new) }
+        ensures nothing_sent { IfOk result (λ m. is_sent m ≡ false) }
+    {
+        self.wait = Wait::Awake;
+        match error {
+            None => {
+                let went = goes(&mut self.frames, nodes, scopes);
+                self.follow(nodes, targets, scopes, facts, went)
+            }
+            Some(error) => {
+                let went = turns(self.alloc, Turned::Raises(error))?;
+                self.follow(nodes, targets, scopes, facts, went)
+            }
+        }
+    }
+
     /// It goes on at the moment until which it has waited: a sleep ends, or the body of its `try` is tried again. Without memory the task
     /// and the layers are left in any state, and are only to be let go.
     pub fn wake(
@@ -312,7 +357,7 @@ impl Task {
         facts: &Facts,
     ) -> Result<Move, OutOfMemory>
         ghost around: { Around }
-        requires tells { Tells around.spots nodes.now }
+        requires tells { IsTableOf around.spots nodes.now }
         requires targets { AreTargets around.flows around.spots nodes.now targets.now }
         requires stands { Stands around nodes.now self.old.frames scopes.old }
         requires going { CanGoOn nodes.now self.old }
@@ -324,17 +369,17 @@ impl Task {
         ensures left { IfOk result (λ m. Stays nodes.now m self.new) }
         ensures nothing_sent { IfOk result (λ m. is_sent m ≡ false) }
     {
-        let wait = self.wait;
-        self.wait = Wait::Awake;
-        match wait {
+        match self.wait {
             Wait::Sleep { node, .. } => {
+                self.wait = Wait::Awake;
                 self.gives(nodes, targets, scopes, facts, node, Value::Null)
             }
             Wait::Delay { .. } => {
+                self.wait = Wait::Awake;
                 let went = try_again(nodes, &mut self.frames, scopes)?;
                 self.follow(nodes, targets, scopes, facts, went)
             }
-            Wait::Awake | Wait::Calling { .. } => unreachable!(),
+            Wait::Awake | Wait::Calling { .. } | Wait::Joining(_) => unreachable!(),
         }
     }
 
@@ -349,7 +394,7 @@ impl Task {
         value: Value,
     ) -> Result<Move, OutOfMemory>
         ghost around: { Around }
-        requires tells { Tells around.spots nodes.now }
+        requires tells { IsTableOf around.spots nodes.now }
         requires targets { AreTargets around.flows around.spots nodes.now targets.now }
         requires stands { Stands around nodes.now self.old.frames scopes.old }
         requires call { is_call_at nodes.now node ≡ true }
@@ -384,7 +429,7 @@ impl Task {
         went: Went,
     ) -> Result<Move, OutOfMemory>
         ghost around: { Around }
-        requires tells { Tells around.spots nodes.now }
+        requires tells { IsTableOf around.spots nodes.now }
         requires targets { AreTargets around.flows around.spots nodes.now targets.now }
         requires stands { Stands around nodes.now self.old.frames scopes.old }
         requires left { IsLeft nodes.now went self.old.frames }
@@ -416,7 +461,7 @@ impl Task {
         went: Went,
     ) -> Result<Behind, OutOfMemory>
         ghost around: { Around }
-        requires tells { Tells around.spots nodes.now }
+        requires tells { IsTableOf around.spots nodes.now }
         requires targets { AreTargets around.flows around.spots nodes.now targets.now }
         requires stands { Stands around nodes.now self.old.frames scopes.old }
         requires left { IsLeft nodes.now went self.old.frames }

@@ -6,7 +6,7 @@ ghost use Rattle.wf_frames.specs.Owned.{Around, control_of, held_by};
 ghost use Rattle.wf_frames.specs.Stands.{Stands};
 ghost use Rattle.wf_frames.specs.declared.frames.Frame.{Frame};
 ghost use Rattle.wf_model.specs.Move.{moves};
-ghost use Rattle.wf_frames.specs.Built.{Tells};
+ghost use Rattle.wf_frames.specs.Built.{IsTableOf};
 ghost use Rattle.wf_moves.specs.Moved.{IsLeft, MovesBy};
 
 use crate::finish::{Went, goes};
@@ -27,7 +27,7 @@ fn iterate(
     scopes: &mut Scopes,
 ) -> Result<Went, OutOfMemory>
     ghost around: { Around }
-    requires tells { Tells around.spots nodes.now }
+    requires tells { IsTableOf around.spots nodes.now }
     requires stands { Stands around nodes.now frames.old scopes.old }
     requires taken { (old : List Frame) × TakesTurn (Some turn) old (inner frames.old) }
     ensures moved { IfOk result (λ w. (old : List Frame)
@@ -57,7 +57,7 @@ pub(crate) fn turn(
     scopes: &mut Scopes,
 ) -> Result<Went, OutOfMemory>
     ghost around: { Around }
-    requires tells { Tells around.spots nodes.now }
+    requires tells { IsTableOf around.spots nodes.now }
     requires stands { Stands around nodes.now frames.old scopes.old }
     requires at { is_at_loop (inner frames.old) ≡ true }
     ensures moved { IfOk result (λ w. MovesBy around

@@ -12,7 +12,7 @@ ghost use Rattle.wf_moves.specs.Retries.{Handler, TriedAt, caught, caught_at, tr
 ghost use Rattle.wf_model.specs.Spots.{owners_at, part_at, part_body};
 ghost use Rattle.wf_model.specs.declared.node.Node.{Node};
 ghost use Rattle.wf_model.specs.declared.node.TryNode as try_node;
-ghost use Rattle.wf_frames.specs.Built.{Tells};
+ghost use Rattle.wf_frames.specs.Built.{IsTableOf};
 ghost use Rattle.wf_value.specs.Data.{Data, depth};
 ghost use Rattle.wf_value.specs.Plain.{plain};
 
@@ -83,7 +83,7 @@ fn handle(
     error: Value,
 ) -> Result<Option<Value>, OutOfMemory>
     ghost around: { Around }
-    requires tells { Tells around.spots nodes.now }
+    requires tells { IsTableOf around.spots nodes.now }
     requires stands { Stands around nodes.now frames.old scopes.old }
     requires handler { (h : Handler nodes.now n) × (h.except ≡ except.now) }
     requires inside { owners_at around.spots n ≡ reach (inner frames.old) }
@@ -116,7 +116,7 @@ pub(crate) fn take(
     error: Value,
 ) -> Result<Option<Value>, OutOfMemory>
     ghost around: { Around }
-    requires tells { Tells around.spots nodes.now }
+    requires tells { IsTableOf around.spots nodes.now }
     requires stands { Stands around nodes.now frames.old scopes.old }
     requires tried { (t : try_node.TryNode) × IsTry nodes.now n t }
     requires inside { owners_at around.spots n ≡ reach (inner frames.old) }

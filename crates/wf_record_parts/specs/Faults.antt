@@ -11,6 +11,6 @@ Fails fault.OutOfMemory read = Unit {0}
 Fails (fault.NoPart left) read = read ≡ Err left
 
 -- what was returned, seen by view, and the bytes behind it are what reading gives
-abbrev pub Gives : {X A : Type 0} → (X → A) → Result X ReadFault → Bytes → Read A → Type 0
-Gives view (Ok x) rest read = read ≡ Ok (view x, rest)
-Gives view (Err e) rest read = Fails e read
+abbrev pub ReadsOff : {X A : Type 0} → (X → A) → Result X ReadFault → Bytes → Read A → Type 0
+ReadsOff view (Ok x) rest read = read ≡ Ok (view x, rest)
+ReadsOff view (Err e) rest read = Fails e read

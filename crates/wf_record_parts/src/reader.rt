@@ -2,7 +2,7 @@
 ghost use Rattle.std.specs.Int.{w16, w32, w64};
 ghost use Rattle.std.specs.Prelude.{◌≡◌, length};
 ghost use Rattle.wf_callbacks.specs.Plain.{plain_method, plain_visitor};
-ghost use Rattle.wf_record_parts.specs.Faults.{Gives};
+ghost use Rattle.wf_record_parts.specs.Faults.{ReadsOff};
 ghost use Rattle.wf_record_parts.specs.Reading.{byte_at, number_at, string_at, text_at, field_at, headers_at, method_at, visitor_at, response_at, reply_at};
 ghost use Rattle.wf_record_parts.specs.View.{response_view, reply_view};
 
@@ -46,7 +46,7 @@ impl<'a> Reader<'a> {
 
     /// One byte.
     pub fn byte(&mut self) -> Result<u8, ReadFault>
-        ensures { Gives (λ n. n) result self.new (byte_at self.old) }
+        ensures { ReadsOff (λ n. n) result self.new (byte_at self.old) }
     {
         let Some((first, rest)) = self.rest.split_first() else {
             return Err(ReadFault::NoPart(0));
@@ -57,7 +57,7 @@ impl<'a> Reader<'a> {
 
     /// A number of 16 bits, its highest byte first.
     pub fn u16(&mut self) -> Result<u16, ReadFault>
-        ensures { Gives (λ n. n) result self.new (number_at w16 self.old) }
+        ensures { ReadsOff (λ n. n) result self.new (number_at w16 self.old) }
     {
         let Some((number, rest)) = self.rest.split_first_chunk::<2>() else {
             return Err(ReadFault::NoPart(self.rest.len()));
@@ -68,7 +68,7 @@ impl<'a> Reader<'a> {
 
     /// A number of 32 bits, its highest byte first.
     pub fn u32(&mut self) -> Result<u32, ReadFault>
-        ensures { Gives (λ n. n) result self.new (number_at w32 self.old) }
+        ensures { ReadsOff (λ n. n) result self.new (number_at w32 self.old) }
     {
         let Some((number, rest)) = self.rest.split_first_chunk::<4>() else {
             return Err(ReadFault::NoPart(self.rest.len()));
@@ -79,7 +79,7 @@ impl<'a> Reader<'a> {
 
     /// A number of 64 bits, its highest byte first.
     pub fn u64(&mut self) -> Result<u64, ReadFault>
-        ensures { Gives (λ n. n) result self.new (number_at w64 self.old) }
+        ensures { ReadsOff (λ n. n) result self.new (number_at w64 self.old) }
     {
         let Some((number, rest)) = self.rest.split_first_chunk::<8>() else {
             return Err(ReadFault::NoPart(self.rest.len()));
@@ -91,7 +91,7 @@ impl<'a> Reader<'a> {
     /// A string: four bytes of length, and that many bytes, which are lent.
     #[tactic(auto, unfolding(crate::specs::Reading::string_at))]
     pub fn string(&mut self) -> Result<&'a [u8], ReadFault>
-        ensures { Gives (λ s. s.now) result self.new (string_at self.old) }
+        ensures { ReadsOff (λ s. s.now) result self.new (string_at self.old) }
     {
         let left = self.left();
         let length = self.u32()? as usize;
@@ -104,7 +104,7 @@ impl<'a> Reader<'a> {
 
     /// A string, copied.
     pub fn bytes(&mut self, alloc: Global) -> Result<Bytes, ReadFault>
-        ensures { Gives (λ s. s) result self.new (string_at self.old) }
+        ensures { ReadsOff (λ s. s) result self.new (string_at self.old) }
     {
         Ok(Bytes::new(alloc, self.string()?)?)
     }
@@ -112,7 +112,7 @@ impl<'a> Reader<'a> {
     /// A string in UTF-8, copied. Where the string isn't UTF-8, no text stands at its first byte.
     #[tactic(auto, unfolding(crate::specs::Reading::text_at))]
     pub fn text(&mut self, alloc: Global) -> Result<Text, ReadFault>
-        ensures { Gives (λ t. t) result self.new (text_at self.old) }
+        ensures { ReadsOff (λ t. t) result self.new (text_at self.old) }
     {
         let left = self.left();
         match str::from_utf8(self.string()?) {
@@ -124,7 +124,7 @@ impl<'a> Reader<'a> {
     /// A field of a head: its name and its value, each a string.
     #[tactic(auto, unfolding(crate::specs::Reading::field_at))]
     fn field(&mut self, alloc: Global) -> Result<(Bytes, Bytes), ReadFault>
-        ensures { Gives (λ f. f) result self.new (field_at self.old) }
+        ensures { ReadsOff (λ f. f) result self.new (field_at self.old) }
     {
         let name = self.bytes(alloc)?;
         let value = self.bytes(alloc)?;
@@ -134,7 +134,7 @@ impl<'a> Reader<'a> {
     /// The fields of a head: four bytes of count, and each field.
     #[tactic(auto, unfolding(crate::specs::Reading::list_at))]
     pub fn fields(&mut self, alloc: Global) -> Result<Fields, ReadFault>
-        ensures { Gives (λ fs. fs) result self.new (headers_at self.old) }
+        ensures { ReadsOff (λ fs. fs) result self.new (headers_at self.old) }
     {
         let count = self.u32()?;
         let mut fields = Fields::new(alloc)?;
@@ -148,7 +148,7 @@ impl<'a> Reader<'a> {
     /// A method, by one byte from 0 to 5.
     #[tactic(auto, unfolding(crate::specs::Reading::method_at))]
     pub fn method(&mut self) -> Result<Method, ReadFault>
-        ensures { Gives plain_method result self.new (method_at self.old) }
+        ensures { ReadsOff plain_method result self.new (method_at self.old) }
     {
         let left = self.left();
         match self.byte()? {
@@ -165,7 +165,7 @@ impl<'a> Reader<'a> {
     /// A request that came to an endpoint: its method, its fields and its body.
     #[tactic(auto, unfolding(crate::specs::Reading::visitor_at))]
     pub fn visitor(&mut self, alloc: Global) -> Result<Visitor, ReadFault>
-        ensures { Gives plain_visitor result self.new (visitor_at self.old) }
+        ensures { ReadsOff plain_visitor result self.new (visitor_at self.old) }
     {
         Ok(Visitor {
             method: self.method()?,
@@ -177,7 +177,7 @@ impl<'a> Reader<'a> {
     /// A whole response: its code, its fields and its body.
     #[tactic(auto, unfolding(crate::specs::Reading::response_at))]
     fn response(&mut self, alloc: Global) -> Result<Response, ReadFault>
-        ensures { Gives response_view result self.new (response_at self.old) }
+        ensures { ReadsOff response_view result self.new (response_at self.old) }
     {
         Ok(Response {
             code: self.u16()?,
@@ -189,7 +189,7 @@ impl<'a> Reader<'a> {
     /// What was kept of the answer to a call: a byte from 0 to 2, and behind 0 the response.
     #[tactic(auto, unfolding(crate::specs::Reading::reply_at))]
     pub fn reply(&mut self, alloc: Global) -> Result<Reply, ReadFault>
-        ensures { Gives reply_view result self.new (reply_at self.old) }
+        ensures { ReadsOff reply_view result self.new (reply_at self.old) }
     {
         let left = self.left();
         match self.byte()? {

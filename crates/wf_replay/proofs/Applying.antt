@@ -7,6 +7,7 @@ use Rattle.wf_machine.specs.Runs.{AreMoves, AppliesMoves}
 use Rattle.wf_machine.specs.State.{State}
 use Rattle.wf_machine.specs.declared.ApplyFault.{ApplyFault}
 use Rattle.wf_machine.specs.declared.ApplyFault.TheVariants.{OutOfMemory}
+use Rattle.wf_model.proofs.After.{nowhere_is_no_config}
 use Rattle.wf_model.specs.Config.{Config, To}
 use Rattle.wf_model.specs.Step.{next}
 use Rattle.wf_replay.proofs.Events.{moves_lead}
@@ -26,7 +27,7 @@ one_event before behind e old new r did = record {
   whole = whole_of behind.broken r OutOfMemory did.broken;
   program = on_ok r did.program;
   steps = did.steps;
-  not_enabled = did.not_enabled;
+  not_enabled = λ is d comes. nowhere_is_no_config d (sym (did.not_enabled is) ∙ comes);
 }
 
 pub some_made : (before behind : State) (reading n old new : ℕ) → AppliesMoves before behind reading n old new → AppliesEvents before behind (replicate n (Move 0)) old new (Ok tt)

@@ -85,8 +85,10 @@ pub record ReplaysTurns {H : Type 0} (world : H → World) (faults : H → Fault
   pub bad_event : Told (world entry) (IfErr result (λ e. (n : ℕ) → e ≡ fault.BadEvent n → goes_to (standing before machine) (ahead before (world entry).seen) ≡ Err n))
   -- only where a disk call failed
   pub disk_fault : IsErrOf result fault.DiskFault → DiskFailed faults entry exit
-  -- only where the history was closed before
-  pub closed : IsErrOf result fault.Closed → is_closed before ≡ true
+  -- exactly where the history was closed before
+  pub closed : IsErrOf result fault.Closed ↔ (is_closed before ≡ true)
+  -- and then nothing changes
+  pub idle : IsErrOf result fault.Closed → (after ≡ before) × (exit ≡ entry)
   -- ## The host
   -- nothing was done that others can notice
   pub deeds : DoesNoDeed world entry exit

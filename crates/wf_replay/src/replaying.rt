@@ -68,6 +68,9 @@ pub fn replay_turns<H: Host, L: Ledger>(
     ensures { ReplaysTurns H.world H.faults history.old history.new host.old host.new machine
         turns steps.old steps.new result }
 {
+    if history.is_closed() {
+        return Err(ReplayFault::Closed);
+    }
     let mut machine = machine;
     let mut left = turns;
     while left > 0 {

@@ -4,7 +4,7 @@ use Rattle.std.specs.Prelude.{string_bytes}
 use Rattle.wf_history.specs.declared.history.History.{History}
 use Rattle.wf_host.specs.Moments.{joined}
 use Rattle.wf_host.specs.World.{World, LeavesOnly}
-use Rattle.wf_journal.specs.Journal.{Stays}
+use Rattle.wf_journal.specs.Journal.{IsJournal, Stays}
 use Rattle.wf_journal.specs.Records.{magic, records}
 use Rattle.wf_deeds.specs.History.{history}
 use Rattle.wf_deeds.specs.Language.{Language}
@@ -15,7 +15,7 @@ use Rattle.wf_replay.specs.Standing.{standing}
 use Rattle.wf_replay.specs.declared.engine_fault.EngineFault.TheVariants as fault
 use Rattle.wf_replay.specs.declared.engine_fault.EngineFault.{EngineFault}
 use Rattle.wf_report.proofs.Fronts.{config_is}
-use Rattle.wf_report.specs.Journals.{LeadsTo, MayHaveRecords, Shows}
+use Rattle.wf_report.specs.Journals.{Reaches, Shows}
 
 -- ## Moments
 -- two calls that only read are one
@@ -25,7 +25,7 @@ stays_on w mid new so_far more seen deeds = joined w mid new (Stays w) (Stays mi
 -- ## Results
 -- what holds of a result that is Ok
 -- records that are none of a history are those of the file
-pub no_history_for : {X : Type 0} (L : Language) (file : List ℕ) (J : List (List ℕ)) (r : Result X EngineFault) → J ≡ records file → MayHaveRecords file
+pub no_history_for : {X : Type 0} (L : Language) (file : List ℕ) (J : List (List ℕ)) (r : Result X EngineFault) → J ≡ records file → IsJournal file
     → IfErr r (λ e. (n : ℕ) → e ≡ fault.NotAHistory n → (history L J ≡ Err n) × (J ≢ []))
     → IfErr r (λ e. (n : ℕ) → e ≡ fault.NotAHistory n → (history L (records file) ≡ Err n) × (records file ≢ []) × (take 4 file ≡ magic))
 no_history_for L file J (Ok x) same may h = tt
@@ -35,7 +35,7 @@ no_history_for L file J (Err e) same may h = λ n is.
     (ap (history L) (sym same) ∙ it.0, some, magic_found file may some)
 
 -- where all records lead
-pub leads_found : (L : Language) (file : List ℕ) (J : List (List ℕ)) (h : History) (r : Result Machine EngineFault) → J ≡ records file → IfOk r (λ m. history L J ≡ Ok (standing h m)) → IfOk r (λ m. LeadsTo L (records file) (state_of m).config)
+pub leads_found : (L : Language) (file : List ℕ) (J : List (List ℕ)) (h : History) (r : Result Machine EngineFault) → J ≡ records file → IfOk r (λ m. history L J ≡ Ok (standing h m)) → IfOk r (λ m. Reaches L (records file) (state_of m).config)
 leads_found L file J h (Ok m) same is = (standing h m, ap (history L) (sym same) ∙ is, config_is h m)
 leads_found L file J h (Err e) same is = tt
 

@@ -6,18 +6,19 @@ use Rattle.wf_deeds.specs.At.{applied_by}
 use Rattle.wf_deeds.specs.History.{history}
 use Rattle.wf_host.specs.Calls.{AtAnyMoment, DiskFailed, DoesNoDeed, NoCountFalls, OnlyErrorsOr, ReadsAsBefore, TellsAsBefore}
 use Rattle.wf_host.specs.World.{World, Faults, Told, Only}
+use Rattle.wf_journal.specs.Journal.{IsJournal}
 use Rattle.wf_journal.specs.Records.{magic, records}
 use Rattle.wf_machine.specs.Seen.{state_of}
 use Rattle.wf_machine.specs.declared.machine.Machine.{Machine}
 use Rattle.wf_replay.specs.TheLanguage.{the_language}
 use Rattle.wf_replay.specs.declared.engine_fault.EngineFault.{EngineFault}
 use Rattle.wf_replay.specs.declared.engine_fault.EngineFault.TheVariants as fault
-use Rattle.wf_report.specs.Journals.{LeadsTo, MayHaveRecords, Shows}
+use Rattle.wf_report.specs.Journals.{Reaches, Shows}
 
 -- of `last_state`
 pub record ReadsTheLastState {H : Type 0} (world : H → World) (faults : H → Faults) (before behind : ℕ) (old new : H) (r : Result Machine EngineFault) : Type 0 where
   -- the machine stands where all records of the file lead
-  pub leads : Told (world old) (IfOk r (λ m. LeadsTo the_language (records (world old).seen) (state_of m).config))
+  pub leads : Told (world old) (IfOk r (λ m. Reaches the_language (records (world old).seen) (state_of m).config))
   -- each of their events is one step
   pub steps : Told (world old) (OnOk r (behind ≡ before + applied_by (records (world old).seen)))
   -- the machine isn't broken
@@ -33,7 +34,7 @@ pub record ReadsTheLastState {H : Type 0} (world : H → World) (faults : H → 
   -- NotAJournal comes only where the file has another magic
   pub not_a_journal : Told (world old) (IsErrOf r fault.NotAJournal → (5 ≤ length (world old).seen) × (take 4 (world old).seen ≢ magic))
   -- NotStarted comes only where it has no record
-  pub not_started : Told (world old) (IsErrOf r fault.NotStarted → (records (world old).seen ≡ []) × MayHaveRecords (world old).seen)
+  pub not_started : Told (world old) (IsErrOf r fault.NotStarted → (records (world old).seen ≡ []) × IsJournal (world old).seen)
   -- what was found was read behind the opening's sync: a crash leaves just this
   pub settled : Told (world old) (OnOk r (Only (world new).seen (world new).may_leave))
   -- and so was that there is no record
@@ -66,7 +67,7 @@ pub record ReadsAnEarlierState {H : Type 0} (world : H → World) (faults : H �
   -- NotAJournal comes only where the file has another magic
   pub not_a_journal : Told (world old) (IsErrOf r fault.NotAJournal → (5 ≤ length (world old).seen) × (take 4 (world old).seen ≢ magic))
   -- NotStarted comes only where it has no record
-  pub not_started : Told (world old) (IsErrOf r fault.NotStarted → (records (world old).seen ≡ []) × MayHaveRecords (world old).seen)
+  pub not_started : Told (world old) (IsErrOf r fault.NotStarted → (records (world old).seen ≡ []) × IsJournal (world old).seen)
   -- what was found was read behind the opening's sync: a crash leaves just this
   pub settled : Told (world old) (OnOk r (Only (world new).seen (world new).may_leave))
   -- and so was that there is no record

@@ -14,7 +14,7 @@ use Rattle.wf_value.specs.declared.Tag.{Tag}
 use Rattle.wf_value.specs.declared.Tag.TheVariants.{IndexError, KeyError}
 use Rattle.wf_value.specs.declared.Value.{Value}
 use Rattle.wf_value.specs.declared.Value.TheVariants as value
-use Rattle.wf_scope.specs.Faults.{Gives, faulted}
+use Rattle.wf_scope.specs.Faults.{Makes, faulted}
 use Rattle.wf_scope.specs.Places.{item_at, key_data, member, with_item, with_key, with_member}
 use Rattle.wf_scope.specs.declared.fault.AssignFault.{AssignFault}
 use Rattle.wf_scope.specs.declared.fault.AssignFault.TheVariants as fault
@@ -54,8 +54,8 @@ module _ (k j : Data) (js : List Data) (v new : Data) where
   behind w a e f = past (Ok w) e ∙ ap (λ b. b >>= λ u. with_member k u v) f
 
 -- ## Answers
-gives_same : (r : Result Value AssignFault) (a b : Answer Data) → a ≡ b → Gives r (faulted a) → Gives r (faulted b)
-gives_same r a b e h = subst (λ (c : Answer Data). Gives r (faulted c)) e h
+gives_same : (r : Result Value AssignFault) (a b : Answer Data) → a ≡ b → Makes r (faulted a) → Makes r (faulted b)
+gives_same r a b e h = subst (λ (c : Answer Data). Makes r (faulted c)) e h
 
 pub answer_ok : (a : Answer Data) (d : Data) → faulted a ≡ Ok d → a ≡ Ok d
 answer_ok (Ok x) d h = let same : x ≡ d = cc h in ap Ok same
@@ -69,7 +69,7 @@ answer_fault (Err t) f h = (t, refl)
 goes_on : (f : AssignFault) (a b : Answer Data) → ((t : Tag) → a ≡ Err t → b ≡ Err t) → faulted a ≡ Err f → faulted b ≡ Err f
 goes_on f a b on h = let t = answer_fault a f h in ap faulted (on t.0 t.1 ∙ sym t.1) ∙ h
 
-gives_on : (f : AssignFault) (a b : Answer Data) → ((t : Tag) → a ≡ Err t → b ≡ Err t) → Gives (Err f) (faulted a) → Gives (Err f) (faulted b)
+gives_on : (f : AssignFault) (a b : Answer Data) → ((t : Tag) → a ≡ Err t → b ≡ Err t) → Makes (Err f) (faulted a) → Makes (Err f) (faulted b)
 gives_on fault.OutOfMemory a b on h = tt
 gives_on f a b on h = goes_on f a b on h
 
@@ -89,7 +89,7 @@ shorter path first long is =
     omega (arith, ap (λ (p : List Key). length p) two.2, ap (λ (p : List Key). length p) (rest_is path first two.0 two.1 two.2))
 
 module _ (path : List Key) (first : Key) (v new : Data) (long : 2 ≤ length path) (is : first ≡ get_or path 0 first) where
-  pub more_given : (r : Result Value AssignFault) (w u : Data) → faulted (member (key_data first) v) ≡ Ok w → faulted (written (map key_data (between 1 (length path) path)) w new) ≡ Ok u → Gives r (faulted (with_member (key_data first) u v)) → Gives r (faulted (written (map key_data path) v new))
+  pub more_given : (r : Result Value AssignFault) (w u : Data) → faulted (member (key_data first) v) ≡ Ok w → faulted (written (map key_data (between 1 (length path) path)) w new) ≡ Ok u → Makes r (faulted (with_member (key_data first) u v)) → Makes r (faulted (written (map key_data path) v new))
   more_given r w u e f h =
       let two = two_places path first long is in
       let rest = rest_is path first two.0 two.1 two.2 in
@@ -97,7 +97,7 @@ module _ (path : List Key) (first : Key) (v new : Data) (long : 2 ≤ length pat
       gives_same r (with_member (key_data first) u v) (written (map key_data path) v new)
       (sym (ap (λ (ks : List Key). written (map key_data ks) v new) two.2 ∙ behind (key_data first) (key_data two.0) (map key_data two.1) v new w (Ok u) (answer_ok (member (key_data first) v) w e) inner)) h
 
-  pub fault_behind : (f : AssignFault) (w : Data) → faulted (member (key_data first) v) ≡ Ok w → Gives (Err f) (faulted (written (map key_data (between 1 (length path) path)) w new)) → Gives (Err f) (faulted (written (map key_data path) v new))
+  pub fault_behind : (f : AssignFault) (w : Data) → faulted (member (key_data first) v) ≡ Ok w → Makes (Err f) (faulted (written (map key_data (between 1 (length path) path)) w new)) → Makes (Err f) (faulted (written (map key_data path) v new))
   fault_behind f w e h =
       let two = two_places path first long is in
       let rest = rest_is path first two.0 two.1 two.2 in
@@ -163,7 +163,7 @@ pub member_indexed : (k : Key) (v : Value) (i j : ℤ) (ds : List Data) (xs : Li
 member_indexed k v i j ds xs o e same f g h =
     ap faulted (member_index k v i ds e f ∙ ap (λ l. or_error IndexError (item_at i l)) (sym g) ∙ ap (λ n. or_error IndexError (item_at n (plain_items xs))) (sym same) ∙ ap (or_error IndexError) (sym h))
 
-pub index_put : (r : Result Value AssignFault) (k : Key) (v : Value) (i j : ℤ) (ds : List Data) (xs : List Value) (n : Data) → k ≡ key.At i → j ≡ i → v ≡ value.List ds → plain_items xs ≡ ds → Gives r (faulted (with_item j n (plain_items xs))) → Gives r (faulted (with_member (key_data k) n (plain v)))
+pub index_put : (r : Result Value AssignFault) (k : Key) (v : Value) (i j : ℤ) (ds : List Data) (xs : List Value) (n : Data) → k ≡ key.At i → j ≡ i → v ≡ value.List ds → plain_items xs ≡ ds → Makes r (faulted (with_item j n (plain_items xs))) → Makes r (faulted (with_member (key_data k) n (plain v)))
 index_put r k v i j ds xs n e same f g h =
     gives_same r (with_item j n (plain_items xs)) (with_member (key_data k) n (plain v))
     (ap (λ m. with_item m n (plain_items xs)) same ∙ ap (with_item i n) (g ∙ sym (items_listed ds)) ∙ sym (ap (λ x. with_member (integer i) n (plain x)) f) ∙ sym (ap (λ x. with_member (key_data x) n (plain v)) e)) h

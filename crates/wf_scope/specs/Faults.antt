@@ -1,7 +1,7 @@
 -- Faults of assignments, and what calls answer. Want of memory may be answered in place of anything.
 --     fault_of, raised      the fault of a tag, and the error that a fault raises
 --     faulted               an answer with the fault in place of the tag
---     Gives, Lends          what calls that give or lend a value answer
+--     Makes, Lends          what calls that give or lend a value answer
 use Rattle.std.specs.Prelude.{◌≡◌, Result, Ok, Err}
 use Rattle.std.specs.Borrow.{Bor}
 use Rattle.wf_value.specs.Data.{Data}
@@ -36,10 +36,10 @@ faulted (Ok d) = Ok d
 faulted (Err t) = Err (fault_of t)
 
 -- a call gives the value, or tells the fault
-abbrev pub Gives : Result Value AssignFault → Result Data AssignFault → Type 0
-Gives (Ok v) r = r ≡ Ok (plain v)
-Gives (Err fault.OutOfMemory) r = Unit {0}
-Gives (Err f) r = r ≡ Err f
+abbrev pub Makes : Result Value AssignFault → Result Data AssignFault → Type 0
+Makes (Ok v) r = r ≡ Ok (plain v)
+Makes (Err fault.OutOfMemory) r = Unit {0}
+Makes (Err f) r = r ≡ Err f
 
 -- a call lends the value, or tells the fault
 abbrev pub Lends : Result (Bor Value) AssignFault → Result Data AssignFault → Type 0

@@ -1,7 +1,7 @@
 // A value with a new one put at places below it.
 ghost use Rattle.std.specs.Prelude.{◌≡◌, ◌<◌, ◌++◌, IfOk, length, map, option_map, slice_set};
 ghost use Rattle.wf_ast.specs.Places.{written};
-ghost use Rattle.wf_scope.specs.Faults.{Gives, Lends, faulted};
+ghost use Rattle.wf_scope.specs.Faults.{Makes, Lends, faulted};
 ghost use Rattle.wf_scope.specs.Places.{item_at, key_data, member, with_item, with_key, with_member};
 ghost use Rattle.wf_value.specs.Plain.{plain, plain_items};
 
@@ -17,7 +17,7 @@ pub(crate) fn written(
     old: &Value,
     new: Value,
 ) -> Result<Value, AssignFault>
-    ensures { Gives result (faulted (written (map key_data path.now) (plain old.now) (plain new))) }
+    ensures { Makes result (faulted (written (map key_data path.now) (plain old.now) (plain new))) }
 {
     match path {
         [] => Ok(new),
@@ -66,7 +66,7 @@ fn item_at(index: i64, items: &[Value]) -> Option<&Value>
 
 /// The value with a new one at a place.
 fn with_member(alloc: Global, key: &Key, new: Value, value: &Value) -> Result<Value, AssignFault>
-    ensures { Gives result (faulted
+    ensures { Makes result (faulted
         (with_member (key_data key.now) (plain new) (plain value.now))) }
 {
     match key {
@@ -80,7 +80,7 @@ fn with_member(alloc: Global, key: &Key, new: Value, value: &Value) -> Result<Va
 
 /// The value with a new one at a key.
 fn with_key(alloc: Global, name: &Text, new: Value, value: &Value) -> Result<Value, AssignFault>
-    ensures { Gives result (faulted (with_key name.now (plain new) (plain value.now))) }
+    ensures { Makes result (faulted (with_key name.now (plain new) (plain value.now))) }
 {
     let (Ok(name), Ok(mut changed)) = (name.copy(), value.copy(alloc)) else {
         return Err(AssignFault::OutOfMemory);
@@ -97,7 +97,7 @@ fn with_key(alloc: Global, name: &Text, new: Value, value: &Value) -> Result<Val
 
 /// The list of these items with a new one at an index.
 fn with_item(alloc: Global, index: i64, new: Value, items: &[Value]) -> Result<Value, AssignFault>
-    ensures { Gives result (faulted (with_item index (plain new) (plain_items items.now))) }
+    ensures { Makes result (faulted (with_item index (plain new) (plain_items items.now))) }
 {
     match usize::try_from(index) {
         Ok(place) if place < items.len() => match replaced(alloc, items, place, new) {

@@ -11,7 +11,7 @@ use Rattle.wf_syntax_rules.specs.declared.fault.SyntaxKind.{SyntaxKind}
 use Rattle.wf_source.specs.Laws.{OneProgram, OneRefusal, NotBoth, ProgramIsShort}
 use Rattle.wf_source.specs.Programs.{IsRefusalOf, IsSourceOf, no_tree, no_program, no_check, refusal_of, said_refusal}
 use Rattle.wf_source.specs.Sources.{content_tree, read_tree, refused, without_mark}
-use Rattle.wf_source.specs.Views.{Tells, TellsOf}
+use Rattle.wf_source.specs.Views.{IsErrorOf, TellsOf}
 use Rattle.wf_source.specs.declared.fault.SourceFault.{SourceFault}
 use Rattle.wf_source.specs.declared.fault.SourceFault.TheVariants.{Refused, OutOfMemory}
 use Rattle.wf_status.specs.declared.Refusal.{Refusal}
@@ -74,6 +74,6 @@ short bytes p is = by (nat_le 131073 (length bytes)) refl is.read
     by false long it = let low = leb-false 131073 (length bytes) long in omega (arith, low)
 
 -- what refuses bytes as a tree refuses them as a source
-pub refused_as_tree : (bytes : List ℕ) (f : SourceFault) → Tells (read_tree bytes) f → TellsOf (IsRefusalOf bytes) f
+pub refused_as_tree : (bytes : List ℕ) (f : SourceFault) → IsErrorOf (read_tree bytes) f → TellsOf (IsRefusalOf bytes) f
 refused_as_tree bytes (Refused r) h = no_tree r h
 refused_as_tree bytes OutOfMemory h = tt

@@ -5,9 +5,9 @@ use Rattle.wf_source.specs.declared.fault.SourceFault.TheVariants.{Refused, OutO
 use Rattle.wf_status.specs.declared.Refusal.{Refusal}
 
 -- the refusal that speaks first, or want of memory
-abbrev pub Tells : {A : Type 0} → Result A Refusal → SourceFault → Type 0
-Tells is (Refused r) = is ≡ Err r
-Tells is OutOfMemory = Unit {0}
+abbrev pub IsErrorOf : {A : Type 0} → Result A Refusal → SourceFault → Type 0
+IsErrorOf is (Refused r) = is ≡ Err r
+IsErrorOf is OutOfMemory = Unit {0}
 
 -- the same where the refusal is told by a relation
 abbrev pub TellsOf : (Refusal → Type 0) → SourceFault → Type 0

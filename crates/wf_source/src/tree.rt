@@ -3,7 +3,7 @@ ghost use Rattle.std.specs.Prelude.{◌≡◌, ◌<◌, ◌≤◌, IfOk, IfErr, 
 ghost use Rattle.serde_json.specs.Read.{read};
 ghost use Rattle.wf_source.specs.Sources as sources;
 ghost use Rattle.wf_source.specs.declared.fault.SourceFault.TheVariants as faults;
-ghost use Rattle.wf_source.specs.Views.{Tells};
+ghost use Rattle.wf_source.specs.Views.{IsErrorOf};
 ghost use Rattle.wf_tree.specs.Plain.{plain_tree};
 ghost use Rattle.wf_tree.specs.Trees.{depth};
 ghost use Rattle.wf_yaml.specs.Reading.{reading};
@@ -56,7 +56,7 @@ fn is_json(text: &[u8]) -> bool
 fn json_tree(alloc: Global, text: &str) -> Result<Tree, SourceFault>
     ensures tree { IfOk result (λ t. sources.of_json (read text.now) ≡ Ok (plain_tree t)) }
     ensures depth { IfOk result (λ t. depth (plain_tree t) ≤ 100) }
-    ensures fault { IfErr result (Tells (sources.of_json (read text.now))) }
+    ensures fault { IfErr result (IsErrorOf (sources.of_json (read text.now))) }
 {
     // laws that the proof uses
     reading_is_decided();
@@ -105,7 +105,7 @@ fn yaml_tree(alloc: Global, text: &str) -> Result<Tree, SourceFault>
     requires { length text.now < 4294967296 }
     ensures tree { IfOk result (λ t. sources.of_yaml (reading text.now) ≡ Ok (plain_tree t)) }
     ensures depth { IfOk result (λ t. depth (plain_tree t) ≤ 100) }
-    ensures fault { IfErr result (Tells (sources.of_yaml (reading text.now))) }
+    ensures fault { IfErr result (IsErrorOf (sources.of_yaml (reading text.now))) }
 {
     match read_yaml(alloc, text) {
         Ok(tree) => Ok(tree),
@@ -119,7 +119,7 @@ fn text_tree(alloc: Global, text: &str) -> Result<Tree, SourceFault>
     requires { length text.now < 4294967296 }
     ensures tree { IfOk result (λ t. sources.text_tree text.now ≡ Ok (plain_tree t)) }
     ensures depth { IfOk result (λ t. depth (plain_tree t) ≤ 100) }
-    ensures fault { IfErr result (Tells (sources.text_tree text.now)) }
+    ensures fault { IfErr result (IsErrorOf (sources.text_tree text.now)) }
 {
     if is_json(text.as_bytes()) {
         json_tree(alloc, text)
@@ -133,7 +133,7 @@ fn content_tree(alloc: Global, content: &[u8]) -> Result<Tree, SourceFault>
     requires { length content.now < 4294967296 }
     ensures tree { IfOk result (λ t. sources.content_tree content.now ≡ Ok (plain_tree t)) }
     ensures depth { IfOk result (λ t. depth (plain_tree t) ≤ 100) }
-    ensures fault { IfErr result (Tells (sources.content_tree content.now)) }
+    ensures fault { IfErr result (IsErrorOf (sources.content_tree content.now)) }
 {
     match str::from_utf8(content) {
         Ok(text) => text_tree(alloc, text),
@@ -154,7 +154,7 @@ fn content_tree(alloc: Global, content: &[u8]) -> Result<Tree, SourceFault>
 pub fn read_tree(alloc: Global, bytes: &[u8]) -> Result<Tree, SourceFault>
     ensures tree { IfOk result (λ t. sources.read_tree bytes.now ≡ Ok (plain_tree t)) }
     ensures depth { IfOk result (λ t. depth (plain_tree t) ≤ 100) }
-    ensures fault { IfErr result (Tells (sources.read_tree bytes.now)) }
+    ensures fault { IfErr result (IsErrorOf (sources.read_tree bytes.now)) }
 {
     if bytes.len() > SOURCE_LIMIT {
         return Err(refused(RefusalKind::SourceTooLong));

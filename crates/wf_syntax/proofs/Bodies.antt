@@ -10,7 +10,7 @@ use Rattle.wf_syntax_rules.specs.Rules.{Arm, Body, arm_fault, body_parts, step_f
 use Rattle.wf_syntax_words.specs.Fields.{body_fields, has, has_only}
 use Rattle.wf_syntax.proofs.Nodes.{map_sound}
 use Rattle.wf_syntax.proofs.OneForm.{body_made}
-use Rattle.wf_syntax.specs.Answers.{Gives, GivesAll}
+use Rattle.wf_syntax.specs.Answers.{IsSoundAnd, AreSoundAnd}
 use Rattle.wf_syntax.specs.Forms.{ArePartsOf, IsArm, IsStepBody, body_of}
 use Rattle.wf_syntax.specs.declared.parts.Parts.{Parts}
 use Rattle.wf_tree.specs.Trees.{Tree, map, Pairs}
@@ -20,8 +20,8 @@ step_body_is : (p : Parts) (fs : Pairs) (b : t.Body) (next : Option Text) → st
 step_body_is p fs b next e is made on =
     (subst (λ c. IsBody c fs) (sym made) (body_made p fs (one_in_step fs e) is), subst (λ n. Maybe n (codes "next") fs IsText) (sym on) is.loops.next)
 
-pub step_body_given : (x : Tree) (p : Parts) (fs : Pairs) (b : t.Body) (next : Option Text) → x ≡ map fs → step_fault fs ≡ None → GivesAll (body_parts fs) (ArePartsOf p fs) → b ≡ body_of p
-    → next ≡ p.loops.next → Gives Body x (IsStepBody b next x)
+pub step_body_given : (x : Tree) (p : Parts) (fs : Pairs) (b : t.Body) (next : Option Text) → x ≡ map fs → step_fault fs ≡ None → AreSoundAnd (body_parts fs) (ArePartsOf p fs) → b ≡ body_of p
+    → next ≡ p.loops.next → IsSoundAnd Body x (IsStepBody b next x)
 step_body_given x p fs b next is e g made on =
     (map_sound Body x fs is e (λ f z. z) g.0, subst (λ y. IsStepBody b next y) (sym is) (step_body_is p fs b next e g.1 made on))
 
@@ -41,7 +41,7 @@ arm_is p fs c b next e is same made on = (
   subst (λ n. Maybe n (codes "next") fs IsText) (sym on) is.loops.next,
 )
 
-pub arm_given : (x : Tree) (p : Parts) (fs : Pairs) (c : Template) (b : t.Body) (next : Option Text) → x ≡ map fs → arm_fault fs ≡ None → GivesAll (body_parts fs) (ArePartsOf p fs)
-    → Some c ≡ p.calls.condition → b ≡ body_of p → next ≡ p.loops.next → Gives Arm x (IsArm (template_view c, b, next) x)
+pub arm_given : (x : Tree) (p : Parts) (fs : Pairs) (c : Template) (b : t.Body) (next : Option Text) → x ≡ map fs → arm_fault fs ≡ None → AreSoundAnd (body_parts fs) (ArePartsOf p fs)
+    → Some c ≡ p.calls.condition → b ≡ body_of p → next ≡ p.loops.next → IsSoundAnd Arm x (IsArm (template_view c, b, next) x)
 arm_given x p fs c b next is e g same made on =
     (map_sound Arm x fs is e (λ f z. z) g.0, subst (λ y. IsArm (template_view c, b, next) y) (sym is) (arm_is p fs c b next e g.1 same made on))

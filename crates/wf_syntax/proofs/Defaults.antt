@@ -9,8 +9,10 @@ use Rattle.wf_syntax_rules.specs.declared.fault.SyntaxKind.TheVariants.{WrongKin
 use Rattle.wf_syntax.proofs.Lists.{each_fails, each_next, every_fails, every_next, take_next}
 use Rattle.wf_syntax.proofs.Ordered.{AllBelow, keys_below, put_last}
 use Rattle.wf_syntax.proofs.Valued.{Entry, item_plain, length_plain, plain_pair}
-use Rattle.wf_syntax.specs.Answers.{Fails, FailsAmong, Gives, GivesAll, IsOutside}
-use Rattle.wf_syntax.specs.declared.stop.Stop.{Stop}
+use Rattle.wf_syntax.specs.Answers.{Fails, FailsAmong, IsSoundAnd, AreSoundAnd}
+use Rattle.wf_value.specs.Stops.{IsOutside}
+use Rattle.wf_syntax_rules.specs.declared.fault.SyntaxKind.{SyntaxKind}
+use Rattle.wf_value.specs.declared.stop.Stop.{Stop}
 use Rattle.wf_expr.specs.Texts.{has_expressions}
 use Rattle.wf_tree.specs.Plain.{plain_tree, plain_items, plain_pairs}
 use Rattle.wf_tree.specs.Trees as trees
@@ -26,7 +28,7 @@ use Rattle.wf_value.specs.declared.path.PathPart.TheVariants.{Index, Key}
 -- ---- nodes
 -- a literal is this
 abbrev pub GivesLiteral : values.Data → trees.Tree → Type 0
-GivesLiteral d x = Gives Literal x (IsLiteral d x)
+GivesLiteral d x = IsSoundAnd Literal x (IsLiteral d x)
 
 pub null_gives : (u : Tree) → u ≡ tree.Null → GivesLiteral values.null (plain_tree u)
 null_gives u is = subst (λ (w : Tree). GivesLiteral values.null (plain_tree w)) (sym is) (node_is_sound Literal trees.null refl (λ f h. h) tt, tt)
@@ -43,13 +45,13 @@ text_gives u s r is e none =
     (node_is_sound Literal (text s) (ap (λ b. demand (not b) WrongKind) none) (λ f h. h) tt, e)
 
 pub list_gives : (u : Tree) (xs : List trees.Tree) (ts : List Tree) (ds : List values.Data) → u ≡ tree.List xs → plain_items ts ≡ xs
-    → GivesAll (each Literal 0 (items_of (plain_items ts))) (AreLiterals (values.items_of ds) (items_of (plain_items ts))) → GivesLiteral (values.list (values.items_of ds)) (plain_tree u)
+    → AreSoundAnd (each Literal 0 (items_of (plain_items ts))) (AreLiterals (values.items_of ds) (items_of (plain_items ts))) → GivesLiteral (values.list (values.items_of ds)) (plain_tree u)
 list_gives u xs ts ds is seen h =
     subst (λ (w : trees.Tree). GivesLiteral (values.list (values.items_of ds)) w) (sym (ap plain_tree is ∙ ap (λ l. list (items_of l)) (sym seen)))
     (node_is_sound Literal (list (items_of (plain_items ts))) refl (λ f k. k) h.0, h.1)
 
 pub map_gives : (u : Tree) (xs : List (List ℕ × trees.Tree)) (ps : List Entry) (ds : List (List ℕ × values.Data)) → u ≡ tree.Map xs → plain_pairs ps ≡ xs
-    → GivesAll (every (λ x. Literal) (pairs_of (plain_pairs ps))) (AreNamedLiterals (values.pairs_of ds) (pairs_of (plain_pairs ps))) → GivesLiteral (values.map (values.pairs_of ds)) (plain_tree u)
+    → AreSoundAnd (every (λ x. Literal) (pairs_of (plain_pairs ps))) (AreNamedLiterals (values.pairs_of ds) (pairs_of (plain_pairs ps))) → GivesLiteral (values.map (values.pairs_of ds)) (plain_tree u)
 map_gives u xs ps ds is seen h =
     subst (λ (w : trees.Tree). GivesLiteral (values.map (values.pairs_of ds)) w) (sym (ap plain_tree is ∙ ap (λ l. map (pairs_of l)) (sym seen)))
     (node_is_sound Literal (map (pairs_of (plain_pairs ps))) refl (λ f k. k) h.0, h.1)
@@ -92,7 +94,7 @@ literals_step ts i x old new d h e all here made =
           (literals_next old (take i (plain_items ts)) d (plain_tree x) all.1 here.1)),
     )
 
-pub literals_fails : (ts : List Tree) (i : ℕ) (x : Tree) (s o : Stop) → i < length ts → x ≡ get_or ts i x → AreSound (each Literal 0 (items_of (take i (plain_items ts)))) → Fails Literal (plain_tree x) s → IsOutside (Index i) s o
+pub literals_fails : (ts : List Tree) (i : ℕ) (x : Tree) (s o : Stop SyntaxKind) → i < length ts → x ≡ get_or ts i x → AreSound (each Literal 0 (items_of (take i (plain_items ts)))) → Fails Literal (plain_tree x) s → IsOutside (Index i) s o
     → FailsAmong (each Literal 0 (items_of (plain_items ts))) o
 literals_fails ts i x s o h e all fails out =
     each_fails Literal (plain_items ts) i (plain_tree x) s o (omega (arith, h, length_plain plain_tree ts)) (item_plain plain_tree ts i x h e) all fails out
@@ -115,7 +117,7 @@ named_step ps i p old new k d h e order all key here made =
           (named_next old (take i (plain_pairs ps)) (k, d) (plain_pair p) all.1 key here.1)),
     )
 
-pub named_fails : (ps : List Entry) (i : ℕ) (p : Entry) (s o : Stop) → i < length ps → p ≡ get_or ps i p → AreSound (every (λ x. Literal) (pairs_of (take i (plain_pairs ps)))) → Fails Literal (plain_tree p.1) s → IsOutside (Key p.0) s o
+pub named_fails : (ps : List Entry) (i : ℕ) (p : Entry) (s o : Stop SyntaxKind) → i < length ps → p ≡ get_or ps i p → AreSound (every (λ x. Literal) (pairs_of (take i (plain_pairs ps)))) → Fails Literal (plain_tree p.1) s → IsOutside (Key p.0) s o
     → FailsAmong (every (λ x. Literal) (pairs_of (plain_pairs ps))) o
 named_fails ps i p s o h e all fails out =
     every_fails (λ x. Literal) (plain_pairs ps) i (plain_pair p) s o (omega (arith, h, length_plain plain_pair ps)) (item_plain plain_pair ps i p h e) all fails out

@@ -13,8 +13,10 @@ use Rattle.wf_syntax_rules.specs.declared.fault.SyntaxKind.TheVariants.{MissingF
 use Rattle.wf_syntax.proofs.Lists.{every_fails, every_next, take_next}
 use Rattle.wf_syntax.proofs.Nodes.{map_fails, map_sound}
 use Rattle.wf_syntax.proofs.Ordered.{AllBelow, above, keys_below}
-use Rattle.wf_syntax.specs.Answers.{Fails, Gives, IsOutside}
-use Rattle.wf_syntax.specs.declared.stop.Stop.{Stop}
+use Rattle.wf_syntax.specs.Answers.{Fails, IsSoundAnd}
+use Rattle.wf_value.specs.Stops.{IsOutside}
+use Rattle.wf_syntax_rules.specs.declared.fault.SyntaxKind.{SyntaxKind}
+use Rattle.wf_value.specs.declared.stop.Stop.{Stop}
 use Rattle.wf_tree.specs.Trees.{Pairs, Tree, map, pair, pairs_of}
 use Rattle.wf_value.specs.Maps.{IsInOrder}
 use Rattle.wf_value.specs.Pairs.{Text}
@@ -98,7 +100,7 @@ same_field None fs gs e h = e ∙ h
 same_field (Some f) fs gs e h = (h.0, e ∙ h.1, h.2)
 
 pub main_next : (main : Option t.Flow) (rest : List t.Flow) (f : t.Flow) (ps : List Entry) (i : ℕ) (p : Entry) → i < length ps → p ≡ get_or ps i p → IsInOrder ps → SoFar main rest (take i ps)
-    → bytes_eq p.0 (codes "main") ≡ true → Gives (Flow p.0) p.1 (IsFlow f p.0 p.1) → SoFar (Some f) rest (take (suc i) ps)
+    → bytes_eq p.0 (codes "main") ≡ true → IsSoundAnd (Flow p.0) p.1 (IsFlow f p.0 p.1) → SoFar (Some f) rest (take (suc i) ps)
 main_next main rest f ps i p lt e order sofar named here =
     let name : p.0 ≡ codes "main" = (bytes_eq-Decides p.0 (codes "main")).0 named in
     let next = take_next ps i p lt e in
@@ -118,7 +120,7 @@ main_next main rest f ps i p lt e order sofar named here =
     }
 
 pub other_next : (main : Option t.Flow) (rest : List t.Flow) (f : t.Flow) (ps : List Entry) (i : ℕ) (p : Entry) → i < length ps → p ≡ get_or ps i p → SoFar main rest (take i ps)
-    → bytes_eq p.0 (codes "main") ≡ false → Gives (Flow p.0) p.1 (IsFlow f p.0 p.1) → SoFar main (rest ++ f ∷ []) (take (suc i) ps)
+    → bytes_eq p.0 (codes "main") ≡ false → IsSoundAnd (Flow p.0) p.1 (IsFlow f p.0 p.1) → SoFar main (rest ++ f ∷ []) (take (suc i) ps)
 other_next main rest f ps i p lt e sofar named here =
     let next = take_next ps i p lt e in
     record {
@@ -134,11 +136,11 @@ other_next main rest f ps i p lt e sofar named here =
     }
 
 -- ## The whole map
-pub flow_fails : (ps : List Entry) (i : ℕ) (p : Entry) (s o : Stop) → i < length ps → p ≡ get_or ps i p → has (codes "main") (pairs_of ps) ≡ true → AreSound (every Flow (pairs_of (take i ps))) → Fails (Flow p.0) p.1 s → IsOutside (Key p.0) s o
+pub flow_fails : (ps : List Entry) (i : ℕ) (p : Entry) (s o : Stop SyntaxKind) → i < length ps → p ≡ get_or ps i p → has (codes "main") (pairs_of ps) ≡ true → AreSound (every Flow (pairs_of (take i ps))) → Fails (Flow p.0) p.1 s → IsOutside (Key p.0) s o
     → Fails Flows (map (pairs_of ps)) o
 flow_fails ps i p s o lt e main sound h out = map_fails Flows (map (pairs_of ps)) (pairs_of ps) o refl (ap (λ b. demand b MissingField) main) (every_fails Flow ps i p s o lt e sound h out)
 
-pub program_given : (fs : Pairs) (ps : List Entry) (main : t.Flow) (rest : List t.Flow) (p : t.Program) → pairs_of ps ≡ fs → has (codes "main") fs ≡ true → SoFar (Some main) rest ps → p.flows ≡ main ∷ rest → Gives Flows (map fs) (IsProgram p (map fs))
+pub program_given : (fs : Pairs) (ps : List Entry) (main : t.Flow) (rest : List t.Flow) (p : t.Program) → pairs_of ps ≡ fs → has (codes "main") fs ≡ true → SoFar (Some main) rest ps → p.flows ≡ main ∷ rest → IsSoundAnd Flows (map fs) (IsProgram p (map fs))
 program_given fs ps main rest p e has_main sofar is =
-    subst (λ gs. has (codes "main") gs ≡ true → Gives Flows (map gs) (IsProgram p (map gs))) e
+    subst (λ gs. has (codes "main") gs ≡ true → IsSoundAnd Flows (map gs) (IsProgram p (map gs))) e
     (λ h. (map_sound Flows (map (pairs_of ps)) (pairs_of ps) refl (ap (λ b. demand b MissingField) h) (λ f z. z) sofar.sound, (main, rest, is, sofar.first, sofar.others))) has_main

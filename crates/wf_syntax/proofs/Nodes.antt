@@ -10,9 +10,10 @@ use Rattle.wf_syntax_rules.specs.Meaning.{Each}
 use Rattle.wf_syntax_rules.specs.Rules.{Role, Sub, at, each, own, parts, there}
 use Rattle.wf_syntax_words.specs.Fields.{field}
 use Rattle.wf_syntax_rules.specs.declared.fault.SyntaxKind.{SyntaxKind}
-use Rattle.wf_syntax.specs.Answers.{Fails, FailsAmong, FirstAmong, IsHere, IsOutside}
-use Rattle.wf_syntax.specs.declared.stop.Stop.{Stop}
-use Rattle.wf_syntax.specs.declared.stop.Stop.TheVariants as stop
+use Rattle.wf_syntax.specs.Answers.{Fails, FailsAmong, FirstAmong}
+use Rattle.wf_value.specs.Stops.{IsHere, IsOutside}
+use Rattle.wf_value.specs.declared.stop.Stop.{Stop}
+use Rattle.wf_value.specs.declared.stop.Stop.TheVariants as stop
 use Rattle.wf_tree.specs.Plain.{plain_items, plain_tree}
 use Rattle.wf_tree.specs.Trees.{Tree, list, map, Pairs, items_of}
 use Rattle.wf_tree.specs.declared.tree.Tree.TheVariants as tree
@@ -35,16 +36,16 @@ among_then [] k xs ys all h = h
 among_then (p ∷ ps) k xs ys all h =
     (xs ++ h.0, h.1, h.2, ap (λ l. xs ++ l) h.3 ∙ sym (append_assoc xs h.0 (h.1 ∷ h.2)), both_sound xs h.0 all h.4, h.5, h.6)
 
-pub fails_first : (xs ys : List Sub) (out : Stop) → FailsAmong xs out → FailsAmong (xs ++ ys) out
+pub fails_first : (xs ys : List Sub) (out : Stop SyntaxKind) → FailsAmong xs out → FailsAmong (xs ++ ys) out
 fails_first xs ys (stop.Refused k ps) h = among_first (reverse ps.items) k xs ys h
 fails_first xs ys stop.OutOfMemory h = tt
 
-pub fails_then : (xs ys : List Sub) (out : Stop) → AreSound xs → FailsAmong ys out → FailsAmong (xs ++ ys) out
+pub fails_then : (xs ys : List Sub) (out : Stop SyntaxKind) → AreSound xs → FailsAmong ys out → FailsAmong (xs ++ ys) out
 fails_then xs ys (stop.Refused k ps) all h = among_then (reverse ps.items) k xs ys all h
 fails_then xs ys stop.OutOfMemory all h = tt
 
 -- a part fails, and those before have no fault
-pub fails_part : (ss before : List Sub) (s : Sub) (after : List Sub) (inner out : Stop) →
+pub fails_part : (ss before : List Sub) (s : Sub) (after : List Sub) (inner out : Stop SyntaxKind) →
     ss ≡ before ++ s ∷ after → AreSound before → Fails s.role s.tree inner → IsOutside s.part inner out → FailsAmong ss out
 fails_part ss before s after (stop.Refused i ps) (stop.Refused j qs) e all h o =
     subst (λ l. FirstAmong l j ss) (sym (ap reverse o.1 ∙ reverse_push ps.items s.part))
@@ -53,7 +54,7 @@ fails_part ss before s after stop.OutOfMemory (stop.Refused j qs) e all h o = ab
 fails_part ss before s after inner stop.OutOfMemory e all h o = tt
 
 -- ## Fields
-pub field_fails : (k : Text) (r : Role) (fs : Pairs) (t : Tree) (inner out : Stop) →
+pub field_fails : (k : Text) (r : Role) (fs : Pairs) (t : Tree) (inner out : Stop SyntaxKind) →
     Some t ≡ field k fs → Fails r t inner → IsOutside (Key k) inner out → FailsAmong (at k r fs) out
 field_fails k r fs t inner out e h o =
     fails_part (at k r fs) [] (record { part = Key k; role = r; tree = t }) [] inner out (ap (there k r) (sym e)) tt h o
@@ -62,20 +63,20 @@ pub field_sound : (k : Text) (r : Role) (fs : Pairs) (t : Tree) → Some t ≡ f
 field_sound k r fs t e h = subst (λ o. AreSound (there k r o)) e (h, tt)
 
 -- ## Nodes
-pub here_fails : (r : Role) (t : Tree) (k : SyntaxKind) (out : Stop) → IsOwn r t k → IsHere k out → Fails r t out
+pub here_fails : (r : Role) (t : Tree) (k : SyntaxKind) (out : Stop SyntaxKind) → IsOwn r t k → IsHere k out → Fails r t out
 here_fails r t k (stop.Refused j ps) h o =
     subst (λ l. FirstAt (reverse l) j r t) (sym o.1) (subst (λ x. IsOwn r t x) (sym o.0) h)
 here_fails r t k stop.OutOfMemory h o = absurd o
 
 -- a node's own fault stops it
-pub own_fails : (r : Role) (t : Tree) (k : SyntaxKind) (out : Stop) → own r t ≡ Some k → IsHere k out → Fails r t out
+pub own_fails : (r : Role) (t : Tree) (k : SyntaxKind) (out : Stop SyntaxKind) → own r t ≡ Some k → IsHere k out → Fails r t out
 own_fails r t k out e h = here_fails r t k out (own_is r t k e) h
 
 below_fails : (ps : List PathPart) (k : SyntaxKind) (r : Role) (t : Tree) → own r t ≡ None → FirstAmong ps k (parts r t) → FirstAt ps k r t
 below_fails [] k r t e h = absurd h
 below_fails (p ∷ ps) k r t e h = (e, h.0, h.1, h.2, h.3, h.4, h.5, h.6)
 
-pub node_fails : (r : Role) (t : Tree) (out : Stop) → own r t ≡ None → FailsAmong (parts r t) out → Fails r t out
+pub node_fails : (r : Role) (t : Tree) (out : Stop SyntaxKind) → own r t ≡ None → FailsAmong (parts r t) out → Fails r t out
 node_fails r t (stop.Refused k ps) e h = below_fails (reverse ps.items) k r t e h
 node_fails r t stop.OutOfMemory e h = tt
 
@@ -105,7 +106,7 @@ items_upto r n m zero (u ∷ ts) t lt is e =
 items_upto r n m (suc i) (u ∷ ts) t lt is e = ap (λ l. item_part r n u ∷ l) (items_upto r (suc n) m i ts t (omega (arith, lt)) is (omega (arith, e)))
 
 -- an item fails, and those before have no fault
-pub item_fails : (r : Role) (i : ℕ) (ts : List Tree) (t : Tree) (inner out : Stop) → i < length ts → slice_index_or ts i t ≡ t →
+pub item_fails : (r : Role) (i : ℕ) (ts : List Tree) (t : Tree) (inner out : Stop SyntaxKind) → i < length ts → slice_index_or ts i t ≡ t →
     AreSound (each r 0 (items_of (take i ts))) → Fails r t inner → IsOutside (Index i) inner out → FailsAmong (each r 0 (items_of ts)) out
 item_fails r i ts t inner out lt is all h o =
     let next = item_next r 0 i i ts t lt is (omega arith) in
@@ -142,7 +143,7 @@ pub all_items : (ts : List code.Tree) (i : ℕ) → length ts ≤ i → take i (
 all_items ts i le = take_all i (plain_items ts) (omega (arith, le, length-map ts plain_tree))
 
 -- a node that is a list
-pub list_fails : (r s : Role) (t : Tree) (ts : List Tree) (out : Stop) → t ≡ list (items_of ts) → own r (list (items_of ts)) ≡ None →
+pub list_fails : (r s : Role) (t : Tree) (ts : List Tree) (out : Stop SyntaxKind) → t ≡ list (items_of ts) → own r (list (items_of ts)) ≡ None →
     parts r (list (items_of ts)) ≡ each s 0 (items_of ts) → FailsAmong (each s 0 (items_of ts)) out → Fails r t out
 list_fails r s t ts out e own_none p h =
     subst (λ u. Fails r u out) (sym e) (node_fails r (list (items_of ts)) out own_none (subst (λ l. FailsAmong l out) (sym p) h))
@@ -155,7 +156,7 @@ list_sound r s t ts e own_none p none h =
 -- ## Maps
 
 -- a node that is a map
-pub map_fails : (r : Role) (t : Tree) (fs : Pairs) (out : Stop) → t ≡ map fs → own r (map fs) ≡ None → FailsAmong (parts r (map fs)) out → Fails r t out
+pub map_fails : (r : Role) (t : Tree) (fs : Pairs) (out : Stop SyntaxKind) → t ≡ map fs → own r (map fs) ≡ None → FailsAmong (parts r (map fs)) out → Fails r t out
 map_fails r t fs out e own_none h = subst (λ u. Fails r u out) (sym e) (node_fails r (map fs) out own_none h)
 
 pub map_sound : (r : Role) (t : Tree) (fs : Pairs) → t ≡ map fs → own r (map fs) ≡ None → ((f : ExprFault) → IsTextFault r (map fs) f → ⊥) →

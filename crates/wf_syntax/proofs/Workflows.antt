@@ -17,8 +17,9 @@ use Rattle.wf_syntax_rules.specs.declared.fault.SyntaxKind.TheVariants.{MissingF
 use Rattle.wf_value.specs.HttpRequest.{is_among}
 use Rattle.wf_syntax.proofs.Nodes.{both_sound, fails_first, fails_part, fails_then, leaf_sound, map_fails, map_sound, own_fails}
 use Rattle.wf_syntax.proofs.Targets.{single_is}
-use Rattle.wf_syntax.specs.Answers.{Fails, FailsAmong, Gives, GivesAll, IsHere, IsOutside}
-use Rattle.wf_syntax.specs.declared.stop.Stop.{Stop}
+use Rattle.wf_syntax.specs.Answers.{Fails, FailsAmong, IsSoundAnd, AreSoundAnd}
+use Rattle.wf_value.specs.Stops.{IsHere, IsOutside}
+use Rattle.wf_value.specs.declared.stop.Stop.{Stop}
 use Rattle.wf_tree.specs.Trees.{Pairs, Tree, map, no_pairs, pair, text}
 use Rattle.wf_value.specs.Data.{Data}
 use Rattle.wf_value.specs.Pairs.{Text}
@@ -31,15 +32,15 @@ named x h = ap (λ b. demand b WrongKind) h
 unnamed : (x : Text) → is_name x ≡ false → demand (is_name x) WrongKind ≡ Some WrongKind
 unnamed x h = ap (λ b. demand b WrongKind) h
 
-pub bare_given : (x : Text) (p : t.Param) → is_name x ≡ true → p.name ≡ x → p.default ≡ None → Gives Parameter (text x) (IsParam p (text x))
+pub bare_given : (x : Text) (p : t.Param) → is_name x ≡ true → p.name ≡ x → p.default ≡ None → IsSoundAnd Parameter (text x) (IsParam p (text x))
 bare_given x p is e none = (leaf_sound Parameter (text x) (named x is) (λ f z. z) refl, λ i. record { name = e i; default = none i })
 
-pub default_fails : (u : Tree) (k : Text) (v : Tree) (inner out : Stop) → Some (k, v) ≡ single_of u → is_name k ≡ true → Fails Literal v inner → IsOutside (Key k) inner out → Fails Parameter u out
+pub default_fails : (u : Tree) (k : Text) (v : Tree) (inner out : Stop SyntaxKind) → Some (k, v) ≡ single_of u → is_name k ≡ true → Fails Literal v inner → IsOutside (Key k) inner out → Fails Parameter u out
 default_fails u k v inner out e is h o =
     map_fails Parameter u (pair k v no_pairs) out (single_is u k v e) (named k is)
     (fails_part (every (λ x. Literal) (pair k v no_pairs)) [] (record { part = Key k; role = Literal; tree = v }) [] inner out refl tt h o)
 
-pub param_given : (u : Tree) (k : Text) (v : Tree) (p : t.Param) (d : Data) → Some (k, v) ≡ single_of u → is_name k ≡ true → Gives Literal v (IsLiteral d v) → p.name ≡ k → p.default ≡ Some d → Gives Parameter u (IsParam p u)
+pub param_given : (u : Tree) (k : Text) (v : Tree) (p : t.Param) (d : Data) → Some (k, v) ≡ single_of u → is_name k ≡ true → IsSoundAnd Literal v (IsLiteral d v) → p.name ≡ k → p.default ≡ Some d → IsSoundAnd Parameter u (IsParam p u)
 param_given u k v p d e is h name default =
     (map_sound Parameter u (pair k v no_pairs) (single_is u k v e) (named k is) (λ f z. z) (h.0, tt), subst (λ y. IsParam p y) (sym (single_is u k v e)) (name, (d, default, h.1)))
 
@@ -69,12 +70,12 @@ own_turned name fs = ap (λ b. unless b UnknownField (unless (has (codes "steps"
 own_name : (name : Text) (fs : Pairs) → fields_fault fs ≡ None → own (Flow name) (map fs) ≡ demand (is_name name) WrongKind
 own_name name fs h = own_turned name fs ∙ by_fields (has_only (codes "steps" ∷ codes "params" ∷ []) fs) (has (codes "steps") fs) (is_name name) h
 
-pub flow_wrong : (name : Text) (x : Tree) (fs : Pairs) (k : SyntaxKind) (out : Stop) → x ≡ map fs → Some k ≡ fields_fault fs → IsHere k out → Fails (Flow name) x out
+pub flow_wrong : (name : Text) (x : Tree) (fs : Pairs) (k : SyntaxKind) (out : Stop SyntaxKind) → x ≡ map fs → Some k ≡ fields_fault fs → IsHere k out → Fails (Flow name) x out
 flow_wrong name x fs k out e h o =
     subst (λ y. Fails (Flow name) y out) (sym e)
     (own_fails (Flow name) (map fs) k out (own_turned name fs ∙ by_fault (has_only (codes "steps" ∷ codes "params" ∷ []) fs) (has (codes "steps") fs) (is_name name) k h) o)
 
-pub flow_unnamed : (name : Text) (x : Tree) (fs : Pairs) (out : Stop) → x ≡ map fs → fields_fault fs ≡ None → is_name name ≡ false → IsHere WrongKind out → Fails (Flow name) x out
+pub flow_unnamed : (name : Text) (x : Tree) (fs : Pairs) (out : Stop SyntaxKind) → x ≡ map fs → fields_fault fs ≡ None → is_name name ≡ false → IsHere WrongKind out → Fails (Flow name) x out
 flow_unnamed name x fs out e none is o =
     subst (λ y. Fails (Flow name) y out) (sym e) (own_fails (Flow name) (map fs) WrongKind out (own_name name fs none ∙ unnamed name is) o)
 
@@ -84,19 +85,19 @@ its_params fs = at (codes "params") Parameters fs
 abbrev pub its_steps : Pairs → List Sub
 its_steps fs = at (codes "steps") Steps fs
 
-pub params_fail : (name : Text) (x : Tree) (fs : Pairs) (out : Stop) → x ≡ map fs → fields_fault fs ≡ None → is_name name ≡ true → FailsAmong (its_params fs) out → Fails (Flow name) x out
+pub params_fail : (name : Text) (x : Tree) (fs : Pairs) (out : Stop SyntaxKind) → x ≡ map fs → fields_fault fs ≡ None → is_name name ≡ true → FailsAmong (its_params fs) out → Fails (Flow name) x out
 params_fail name x fs out e none is h = map_fails (Flow name) x fs out e (own_name name fs none ∙ named name is) (fails_first (its_params fs) (its_steps fs) out h)
 
-pub steps_fail : (name : Text) (x : Tree) (fs : Pairs) (out : Stop) → x ≡ map fs → fields_fault fs ≡ None → is_name name ≡ true → AreSound (its_params fs) → FailsAmong (its_steps fs) out → Fails (Flow name) x out
+pub steps_fail : (name : Text) (x : Tree) (fs : Pairs) (out : Stop SyntaxKind) → x ≡ map fs → fields_fault fs ≡ None → is_name name ≡ true → AreSound (its_params fs) → FailsAmong (its_steps fs) out → Fails (Flow name) x out
 steps_fail name x fs out e none is sound h = map_fails (Flow name) x fs out e (own_name name fs none ∙ named name is) (fails_then (its_params fs) (its_steps fs) out sound h)
 
 pub flow_given : (name : Text) (x : Tree) (fs : Pairs) (f : t.Flow) → x ≡ map fs → fields_fault fs ≡ None → is_name name ≡ true → f.name ≡ name
-    → GivesAll (its_params fs) (Else f.params [] (codes "params") fs AreParams) → GivesAll (its_steps fs) (At (codes "steps") fs (AreSteps f.steps)) → Gives (Flow name) x (IsFlow f name x)
+    → AreSoundAnd (its_params fs) (Else f.params [] (codes "params") fs AreParams) → AreSoundAnd (its_steps fs) (At (codes "steps") fs (AreSteps f.steps)) → IsSoundAnd (Flow name) x (IsFlow f name x)
 flow_given name x fs f e none is same params steps =
-    subst (λ y. Gives (Flow name) y (IsFlow f name y)) (sym e)
+    subst (λ y. IsSoundAnd (Flow name) y (IsFlow f name y)) (sym e)
     (map_sound (Flow name) (map fs) fs refl (own_name name fs none ∙ named name is) (λ z k. k) (both_sound (its_params fs) (its_steps fs) params.0 steps.0), (same, params.1, steps.1))
 
 -- the steps, as the workflow has them
-pub steps_there : (fs : Pairs) (o : Option StepList) (ss : StepList) → o ≡ Some ss → GivesAll (its_steps fs) (Maybe (option_map steps_in o) (codes "steps") fs AreSteps) → GivesAll (its_steps fs) (At (codes "steps") fs (AreSteps (t.steps (steps_view ss))))
+pub steps_there : (fs : Pairs) (o : Option StepList) (ss : StepList) → o ≡ Some ss → AreSoundAnd (its_steps fs) (Maybe (option_map steps_in o) (codes "steps") fs AreSteps) → AreSoundAnd (its_steps fs) (At (codes "steps") fs (AreSteps (t.steps (steps_view ss))))
 steps_there fs o ss e h =
-    subst (λ s. GivesAll (its_steps fs) (At (codes "steps") fs (AreSteps s))) (steps_level ss) (subst (λ p. GivesAll (its_steps fs) (Maybe (option_map steps_in p) (codes "steps") fs AreSteps)) e h)
+    subst (λ s. AreSoundAnd (its_steps fs) (At (codes "steps") fs (AreSteps s))) (steps_level ss) (subst (λ p. AreSoundAnd (its_steps fs) (Maybe (option_map steps_in p) (codes "steps") fs AreSteps)) e h)

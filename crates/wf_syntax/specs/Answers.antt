@@ -5,21 +5,21 @@ use Rattle.wf_syntax_rules.specs.Rules.{Role, Sub}
 use Rattle.wf_syntax_rules.specs.declared.fault.SyntaxFault.{SyntaxFault}
 use Rattle.wf_syntax_rules.specs.declared.fault.SyntaxFault.TheVariants as fault
 use Rattle.wf_syntax_rules.specs.declared.fault.SyntaxKind.{SyntaxKind}
-use Rattle.wf_syntax.specs.declared.stop.Stop.{Stop}
-use Rattle.wf_syntax.specs.declared.stop.Stop.TheVariants as stop
+use Rattle.wf_value.specs.declared.stop.Stop.{Stop}
+use Rattle.wf_value.specs.declared.stop.Stop.TheVariants as stop
 use Rattle.wf_tree.specs.Trees.{Tree}
 use Rattle.wf_value.specs.declared.path.PathPart.{PathPart}
 
 -- ## A tree, and parts in a row
 -- it has no fault in its role, and is this
-abbrev pub Gives : Role → Tree → Type 0 → Type 0
-Gives r t P = IsSound r t × P
+abbrev pub IsSoundAnd : Role → Tree → Type 0 → Type 0
+IsSoundAnd r t P = IsSound r t × P
 
-abbrev pub GivesAll : List Sub → Type 0 → Type 0
-GivesAll ss P = AreSound ss × P
+abbrev pub AreSoundAnd : List Sub → Type 0 → Type 0
+AreSoundAnd ss P = AreSound ss × P
 
 -- its first fault is this; want of memory tells nothing
-abbrev pub Fails : Role → Tree → Stop → Type 0
+abbrev pub Fails : Role → Tree → Stop SyntaxKind → Type 0
 Fails r t (stop.Refused k ps) = FirstAt (reverse ps.items) k r t
 Fails r t stop.OutOfMemory = Unit {0}
 
@@ -29,24 +29,13 @@ FirstAmong [] k ss = ⊥
 FirstAmong (p ∷ ps) k ss =
     (before : List Sub) × (s : Sub) × (after : List Sub) × (ss ≡ before ++ s ∷ after) × AreSound before × (s.part ≡ p) × FirstAt ps k s.role s.tree
 
-abbrev pub FailsAmong : List Sub → Stop → Type 0
+abbrev pub FailsAmong : List Sub → Stop SyntaxKind → Type 0
 FailsAmong ss (stop.Refused k ps) = FirstAmong (reverse ps.items) k ss
 FailsAmong ss stop.OutOfMemory = Unit {0}
 
--- ## Stops
-abbrev pub IsHere : SyntaxKind → Stop → Type 0
-IsHere k (stop.Refused j ps) = (j ≡ k) × (ps.items ≡ [])
-IsHere k stop.OutOfMemory = ⊥
-
--- the same fault seen from further out, unless there was no memory to tell it
-abbrev pub IsOutside : PathPart → Stop → Stop → Type 0
-IsOutside p s stop.OutOfMemory = Unit {0}
-IsOutside p (stop.Refused k ps) (stop.Refused j qs) = (j ≡ k) × (qs.items ≡ ps.items ++ p ∷ [])
-IsOutside p stop.OutOfMemory s = ⊥
-
 -- ## The whole
 -- the fault of a stop, its path from the first step on
-abbrev pub IsToldOf : Stop → SyntaxFault → Type 0
+abbrev pub IsToldOf : Stop SyntaxKind → SyntaxFault → Type 0
 IsToldOf (stop.Refused k ps) (fault.Refused j p) = (j ≡ k) × (p ≡ reverse ps.items)
 IsToldOf s (fault.Refused j p) = ⊥
 IsToldOf s fault.OutOfMemory = Unit {0}

@@ -4,7 +4,7 @@ ghost use Rattle.wf_ast.specs.View.{entries_view, entry_view, target_view};
 ghost use Rattle.wf_expr.specs.Targets.{IsTarget};
 ghost use Rattle.wf_syntax_rules.specs.Meaning.{AreEntries, IsEntry, Maybe};
 ghost use Rattle.wf_syntax_rules.specs.Rules.{Entries as AllEntries, Entry as AnEntry, Target as ATarget, at};
-ghost use Rattle.wf_syntax.specs.Answers.{Fails, FailsAmong, Gives, GivesAll};
+ghost use Rattle.wf_syntax.specs.Answers.{Fails, FailsAmong, IsSoundAnd, AreSoundAnd};
 ghost use Rattle.wf_tree.specs.Plain.{plain_tree};
 ghost use Rattle.wf_tree.specs.Trees.{pairs_of, text};
 
@@ -19,7 +19,7 @@ use wf_tree::{Tree, TreeMap};
 
 /// The target that a key is.
 fn target(alloc: Global, key: &str) -> Result<Target, Stop>
-    ensures { MatchResult result (λ x. Gives ATarget (text key.now)
+    ensures { MatchResult result (λ x. IsSoundAnd ATarget (text key.now)
         (IsTarget key.now (target_view x))) (λ stop. Fails ATarget (text key.now) stop) }
 {
     // laws that the proof uses
@@ -33,7 +33,7 @@ fn target(alloc: Global, key: &str) -> Result<Target, Stop>
 
 /// An assignment: a map of one, whose key is a target.
 fn entry(alloc: Global, tree: &Tree) -> Result<Entry, Stop>
-    ensures { MatchResult result (λ e. Gives AnEntry (plain_tree tree.now)
+    ensures { MatchResult result (λ e. IsSoundAnd AnEntry (plain_tree tree.now)
         (IsEntry (entry_view e) (plain_tree tree.now)))
         (λ stop. Fails AnEntry (plain_tree tree.now) stop) }
 {
@@ -51,7 +51,7 @@ fn entry(alloc: Global, tree: &Tree) -> Result<Entry, Stop>
 }
 
 fn entries(alloc: Global, tree: &Tree) -> Result<Entries, Stop>
-    ensures { MatchResult result (λ es. Gives AllEntries (plain_tree tree.now)
+    ensures { MatchResult result (λ es. IsSoundAnd AllEntries (plain_tree tree.now)
         (AreEntries (entries_view es) (plain_tree tree.now)))
         (λ stop. Fails AllEntries (plain_tree tree.now) stop) }
 {
@@ -75,7 +75,7 @@ pub(crate) fn entries_at(
     fields: &TreeMap,
     key: &str,
 ) -> Result<Option<Entries>, Stop>
-    ensures { MatchResult result (λ o. GivesAll (at key.now AllEntries (pairs_of fields.now))
+    ensures { MatchResult result (λ o. AreSoundAnd (at key.now AllEntries (pairs_of fields.now))
         (Maybe (option_map entries_view o) key.now (pairs_of fields.now) AreEntries))
         (λ stop. FailsAmong (at key.now AllEntries (pairs_of fields.now)) stop) }
 {

@@ -5,8 +5,8 @@ ghost use Rattle.wf_syntax_rules.specs.Meaning.{AreParams, Else, IsFlow, IsParam
 ghost use Rattle.wf_syntax_rules.specs.Faults.{rooted};
 ghost use Rattle.wf_syntax_rules.specs.Rules as rules;
 ghost use Rattle.wf_syntax_rules.specs.Rules.{Flows as AllFlows, Parameter, Parameters, at};
-ghost use Rattle.wf_syntax.specs.Answers.{Fails, FailsAmong, Gives, GivesAll};
-ghost use Rattle.wf_syntax.specs.declared.stop.Stop.TheVariants as stop;
+ghost use Rattle.wf_syntax.specs.Answers.{Fails, FailsAmong, IsSoundAnd, AreSoundAnd};
+ghost use Rattle.wf_value.specs.declared.stop.Stop.TheVariants as stop;
 ghost use Rattle.wf_tree.specs.Plain.{plain_tree};
 ghost use Rattle.wf_tree.specs.Trees.{Items, list, map, pairs_of, text};
 
@@ -23,7 +23,7 @@ use wf_tree::{Tree, TreeMap};
 
 /// A parameter: its name, or a map of one from its name to its default.
 fn param(alloc: Global, tree: &Tree) -> Result<Param, Stop>
-    ensures { MatchResult result (λ p. Gives Parameter (plain_tree tree.now)
+    ensures { MatchResult result (λ p. IsSoundAnd Parameter (plain_tree tree.now)
         (IsParam (param_view p) (plain_tree tree.now)))
         (λ stop. Fails Parameter (plain_tree tree.now) stop) }
 {
@@ -47,7 +47,7 @@ fn param(alloc: Global, tree: &Tree) -> Result<Param, Stop>
 
 /// A parameter without a default.
 fn bare_param(alloc: Global, name: &str) -> Result<Param, Stop>
-    ensures { MatchResult result (λ p. Gives Parameter (text name.now)
+    ensures { MatchResult result (λ p. IsSoundAnd Parameter (text name.now)
         (IsParam (param_view p) (text name.now))) (λ stop. Fails Parameter (text name.now) stop) }
 {
     if is_name(name) {
@@ -61,7 +61,7 @@ fn bare_param(alloc: Global, name: &str) -> Result<Param, Stop>
 }
 
 fn params(alloc: Global, tree: &Tree) -> Result<Params, Stop>
-    ensures { MatchResult result (λ ps. Gives Parameters (plain_tree tree.now)
+    ensures { MatchResult result (λ ps. IsSoundAnd Parameters (plain_tree tree.now)
         (AreParams (params_view ps) (plain_tree tree.now)))
         (λ stop. Fails Parameters (plain_tree tree.now) stop) }
 {
@@ -81,7 +81,7 @@ fn params(alloc: Global, tree: &Tree) -> Result<Params, Stop>
 
 /// The parameters at a key, and none where they aren't there.
 fn params_at(alloc: Global, fields: &TreeMap, key: &str) -> Result<Params, Stop>
-    ensures { MatchResult result (λ ps. GivesAll (at key.now Parameters (pairs_of fields.now))
+    ensures { MatchResult result (λ ps. AreSoundAnd (at key.now Parameters (pairs_of fields.now))
         (Else (params_view ps) [] key.now (pairs_of fields.now) AreParams))
         (λ stop. FailsAmong (at key.now Parameters (pairs_of fields.now)) stop) }
 {
@@ -96,7 +96,7 @@ fn params_at(alloc: Global, fields: &TreeMap, key: &str) -> Result<Params, Stop>
 
 /// The workflow of a name.
 fn flow(alloc: Global, name: &str, tree: &Tree) -> Result<Flow, Stop>
-    ensures { MatchResult result (λ f. Gives (rules.Flow name.now) (plain_tree tree.now)
+    ensures { MatchResult result (λ f. IsSoundAnd (rules.Flow name.now) (plain_tree tree.now)
         (IsFlow (flow_view f) name.now (plain_tree tree.now)))
         (λ stop. Fails (rules.Flow name.now) (plain_tree tree.now) stop) }
 {
@@ -122,7 +122,7 @@ fn flow(alloc: Global, name: &str, tree: &Tree) -> Result<Flow, Stop>
 
 /// The workflows of a map: `main` first, then the others by name.
 pub(crate) fn program(alloc: Global, fields: &TreeMap) -> Result<Program, Stop>
-    ensures { MatchResult result (λ p. Gives AllFlows (map (pairs_of fields.now))
+    ensures { MatchResult result (λ p. IsSoundAnd AllFlows (map (pairs_of fields.now))
         (IsProgram (program_view p) (map (pairs_of fields.now))))
         (λ stop. Fails AllFlows (map (pairs_of fields.now)) stop) }
 {
@@ -171,7 +171,8 @@ fn in_order(alloc: Global, main: Flow, others: Vec<Flow>) -> Result<Flows, Stop>
 /// The program whose only workflow has these steps.
 pub(crate) fn main_alone(alloc: Global, tree: &Tree) -> Result<Program, Stop>
     ensures { MatchResult result (λ p. OfList (plain_tree tree.now)
-        (λ xs. Gives AllFlows (rooted (list xs)) (IsProgram (program_view p) (rooted (list xs)))))
+        (λ xs. IsSoundAnd AllFlows (rooted (list xs))
+        (IsProgram (program_view p) (rooted (list xs)))))
         (λ stop. (xs : Items) → plain_tree tree.now ≡ list xs
         → Fails AllFlows (rooted (list xs)) stop) }
 {

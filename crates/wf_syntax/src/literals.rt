@@ -2,7 +2,7 @@
 ghost use Rattle.std.specs.Prelude.{MatchResult};
 ghost use Rattle.wf_syntax_rules.specs.Meaning.{AreLiterals, AreNamedLiterals, IsLiteral};
 ghost use Rattle.wf_syntax_rules.specs.Rules.{Literal, each, every};
-ghost use Rattle.wf_syntax.specs.Answers.{Fails, FailsAmong, Gives, GivesAll};
+ghost use Rattle.wf_syntax.specs.Answers.{Fails, FailsAmong, IsSoundAnd, AreSoundAnd};
 ghost use Rattle.wf_tree.specs.Plain.{plain_items, plain_pairs, plain_tree};
 ghost use Rattle.wf_tree.specs.Trees.{items_of, pairs_of};
 ghost use Rattle.wf_value.specs.Data as values;
@@ -20,7 +20,7 @@ use wf_value::{List, Map, Text, Value};
 /// A value without expressions.
 #[cycle(literal)]
 pub(crate) fn literal(alloc: Global, tree: &Tree) -> Result<Value, Stop>
-    ensures { MatchResult result (λ v. Gives Literal (plain_tree tree.now)
+    ensures { MatchResult result (λ v. IsSoundAnd Literal (plain_tree tree.now)
         (IsLiteral (plain v) (plain_tree tree.now)))
         (λ stop. Fails Literal (plain_tree tree.now) stop) }
 {
@@ -43,7 +43,8 @@ pub(crate) fn literal(alloc: Global, tree: &Tree) -> Result<Value, Stop>
 
 #[cycle(literal)]
 fn literals(alloc: Global, items: &[Tree]) -> Result<List, Stop>
-    ensures { MatchResult result (λ vs. GivesAll (each Literal 0 (items_of (plain_items items.now)))
+    ensures { MatchResult result (λ vs. AreSoundAnd
+        (each Literal 0 (items_of (plain_items items.now)))
         (AreLiterals (values.items_of vs) (items_of (plain_items items.now))))
         (λ stop. FailsAmong (each Literal 0 (items_of (plain_items items.now))) stop) }
 {
@@ -61,7 +62,7 @@ fn literals(alloc: Global, items: &[Tree]) -> Result<List, Stop>
 #[cycle(literal)]
 fn named_literals(alloc: Global, pairs: &[(Text, Tree)]) -> Result<Map, Stop>
     requires { IsInOrder pairs.now }
-    ensures { MatchResult result (λ vs. GivesAll
+    ensures { MatchResult result (λ vs. AreSoundAnd
         (every (λ x. Literal) (pairs_of (plain_pairs pairs.now)))
         (AreNamedLiterals (values.pairs_of vs) (pairs_of (plain_pairs pairs.now))))
         (λ stop. FailsAmong (every (λ x. Literal) (pairs_of (plain_pairs pairs.now))) stop) }

@@ -1,9 +1,9 @@
 // What stands in the fields of a step or an arm.
 ghost use Rattle.std.specs.Prelude.{◌≡◌, option_map, MatchResult};
 ghost use Rattle.wf_ast.specs.View.{body_view};
-ghost use Rattle.wf_syntax.specs.Answers.{FailsAmong, GivesAll};
+ghost use Rattle.wf_syntax.specs.Answers.{FailsAmong, AreSoundAnd};
 ghost use Rattle.wf_syntax.specs.Forms.{AreCallParts, AreValueParts, block_form, body_of, call_form, call_part_keys, first_of, loop_form, row, try_form, value_form, value_part_keys};
-ghost use Rattle.wf_syntax.specs.declared.stop.Stop.TheVariants as stop;
+ghost use Rattle.wf_value.specs.declared.stop.Stop.TheVariants as stop;
 ghost use Rattle.wf_tree.specs.Trees.{pairs_of};
 
 use crate::entries::entries_at;
@@ -273,7 +273,7 @@ fn try_body(
 
 /// What stands in the fields from `args` to `condition`.
 pub(crate) fn call_parts(alloc: Global, fields: &TreeMap) -> Result<CallParts, Stop>
-    ensures { MatchResult result (λ p. GivesAll (row (pairs_of fields.now) call_part_keys)
+    ensures { MatchResult result (λ p. AreSoundAnd (row (pairs_of fields.now) call_part_keys)
         (AreCallParts p (pairs_of fields.now)))
         (λ stop. FailsAmong (row (pairs_of fields.now) call_part_keys) stop) }
 {
@@ -287,7 +287,7 @@ pub(crate) fn call_parts(alloc: Global, fields: &TreeMap) -> Result<CallParts, S
 
 /// What stands in the fields from `raise` to `return`.
 pub(crate) fn value_parts(alloc: Global, fields: &TreeMap) -> Result<ValueParts, Stop>
-    ensures { MatchResult result (λ p. GivesAll (row (pairs_of fields.now) value_part_keys)
+    ensures { MatchResult result (λ p. AreSoundAnd (row (pairs_of fields.now) value_part_keys)
         (AreValueParts p (pairs_of fields.now)))
         (λ stop. FailsAmong (row (pairs_of fields.now) value_part_keys) stop) }
 {

@@ -6,7 +6,7 @@ ghost use Rattle.wf_syntax_rules.specs.Meaning.{Else, IsAttempts, IsBackoff, IsP
 ghost use Rattle.wf_syntax_rules.specs.Rules as rules;
 ghost use Rattle.wf_syntax_rules.specs.Rules.{Factor, Retry, Seconds, at};
 ghost use Rattle.wf_value.specs.HttpRequest.{is_among};
-ghost use Rattle.wf_syntax.specs.Answers.{Fails, FailsAmong, Gives, GivesAll};
+ghost use Rattle.wf_syntax.specs.Answers.{Fails, FailsAmong, IsSoundAnd, AreSoundAnd};
 ghost use Rattle.wf_tree.specs.Plain.{plain_tree};
 ghost use Rattle.wf_tree.specs.Trees.{map, pairs_of};
 
@@ -36,7 +36,7 @@ const DEFAULT_BACKOFF: Backoff = Backoff {
 
 /// A predefined policy, or a map of one's fields.
 fn policy(alloc: Global, tree: &Tree) -> Result<Policy, Stop>
-    ensures { MatchResult result (λ p. Gives Retry (plain_tree tree.now)
+    ensures { MatchResult result (λ p. IsSoundAnd Retry (plain_tree tree.now)
         (IsPolicy (policy_view p) (plain_tree tree.now)))
         (λ stop. Fails Retry (plain_tree tree.now) stop) }
 {
@@ -75,7 +75,7 @@ fn predefined(name: &str) -> Option<Policy>
 
 /// A policy by its fields.
 fn own_policy(alloc: Global, fields: &TreeMap) -> Result<Policy, Stop>
-    ensures { MatchResult result (λ p. Gives Retry (map (pairs_of fields.now))
+    ensures { MatchResult result (λ p. IsSoundAnd Retry (map (pairs_of fields.now))
         (IsPolicy (policy_view p) (map (pairs_of fields.now))))
         (λ stop. Fails Retry (map (pairs_of fields.now)) stop) }
 {
@@ -94,7 +94,8 @@ fn own_policy(alloc: Global, fields: &TreeMap) -> Result<Policy, Stop>
 
 /// Which errors are tried again: all where nothing is said.
 fn predicate_at(alloc: Global, fields: &TreeMap, key: &str) -> Result<Predicate, Stop>
-    ensures { MatchResult result (λ q. GivesAll (at key.now rules.Predicate (pairs_of fields.now))
+    ensures { MatchResult result (λ q. AreSoundAnd
+        (at key.now rules.Predicate (pairs_of fields.now))
         (Else (predicate_view q) Always key.now (pairs_of fields.now) IsPredicate))
         (λ stop. FailsAmong (at key.now rules.Predicate (pairs_of fields.now)) stop) }
 {
@@ -108,7 +109,7 @@ fn predicate_at(alloc: Global, fields: &TreeMap, key: &str) -> Result<Predicate,
 }
 
 fn predicate(alloc: Global, tree: &Tree) -> Result<Predicate, Stop>
-    ensures { MatchResult result (λ q. Gives rules.Predicate (plain_tree tree.now)
+    ensures { MatchResult result (λ q. IsSoundAnd rules.Predicate (plain_tree tree.now)
         (IsPredicate (predicate_view q) (plain_tree tree.now)))
         (λ stop. Fails rules.Predicate (plain_tree tree.now) stop) }
 {
@@ -134,7 +135,7 @@ fn predicate(alloc: Global, tree: &Tree) -> Result<Predicate, Stop>
 
 /// How often a body is tried again: five times where nothing is said.
 fn attempts_at(alloc: Global, fields: &TreeMap, key: &str) -> Result<u32, Stop>
-    ensures { MatchResult result (λ n. GivesAll (at key.now rules.Attempts (pairs_of fields.now))
+    ensures { MatchResult result (λ n. AreSoundAnd (at key.now rules.Attempts (pairs_of fields.now))
         (Else n most_retries key.now (pairs_of fields.now) IsAttempts))
         (λ stop. FailsAmong (at key.now rules.Attempts (pairs_of fields.now)) stop) }
 {
@@ -149,7 +150,7 @@ fn attempts_at(alloc: Global, fields: &TreeMap, key: &str) -> Result<u32, Stop>
 
 /// The delays, or those that hold where nothing is said.
 fn backoff_at(alloc: Global, fields: &TreeMap, key: &str) -> Result<Backoff, Stop>
-    ensures { MatchResult result (λ b. GivesAll (at key.now rules.Backoff (pairs_of fields.now))
+    ensures { MatchResult result (λ b. AreSoundAnd (at key.now rules.Backoff (pairs_of fields.now))
         (Else b default_backoff key.now (pairs_of fields.now) IsBackoff))
         (λ stop. FailsAmong (at key.now rules.Backoff (pairs_of fields.now)) stop) }
 {
@@ -163,7 +164,7 @@ fn backoff_at(alloc: Global, fields: &TreeMap, key: &str) -> Result<Backoff, Sto
 }
 
 fn backoff(alloc: Global, tree: &Tree) -> Result<Backoff, Stop>
-    ensures { MatchResult result (λ b. Gives rules.Backoff (plain_tree tree.now)
+    ensures { MatchResult result (λ b. IsSoundAnd rules.Backoff (plain_tree tree.now)
         (IsBackoff b (plain_tree tree.now)))
         (λ stop. Fails rules.Backoff (plain_tree tree.now) stop) }
 {
@@ -182,7 +183,7 @@ fn backoff(alloc: Global, tree: &Tree) -> Result<Backoff, Stop>
 
 /// A delay at a key, in milliseconds, or a default.
 fn delay_at(alloc: Global, fields: &TreeMap, key: &str, default: u64) -> Result<u64, Stop>
-    ensures { MatchResult result (λ n. GivesAll (at key.now Seconds (pairs_of fields.now))
+    ensures { MatchResult result (λ n. AreSoundAnd (at key.now Seconds (pairs_of fields.now))
         (Else n default key.now (pairs_of fields.now) IsThousandths))
         (λ stop. FailsAmong (at key.now Seconds (pairs_of fields.now)) stop) }
 {
@@ -197,7 +198,7 @@ fn delay_at(alloc: Global, fields: &TreeMap, key: &str, default: u64) -> Result<
 
 /// A factor at a key, in thousandths, or a default.
 fn factor_at(alloc: Global, fields: &TreeMap, key: &str, default: u64) -> Result<u64, Stop>
-    ensures { MatchResult result (λ n. GivesAll (at key.now Factor (pairs_of fields.now))
+    ensures { MatchResult result (λ n. AreSoundAnd (at key.now Factor (pairs_of fields.now))
         (Else n default key.now (pairs_of fields.now) IsThousandths))
         (λ stop. FailsAmong (at key.now Factor (pairs_of fields.now)) stop) }
 {
@@ -212,7 +213,7 @@ fn factor_at(alloc: Global, fields: &TreeMap, key: &str, default: u64) -> Result
 
 /// The policy at a key, if there is one.
 pub(crate) fn policy_at(alloc: Global, fields: &TreeMap, key: &str) -> Result<Option<Policy>, Stop>
-    ensures { MatchResult result (λ o. GivesAll (at key.now Retry (pairs_of fields.now))
+    ensures { MatchResult result (λ o. AreSoundAnd (at key.now Retry (pairs_of fields.now))
         (Maybe (policy_option_view o) key.now (pairs_of fields.now) IsPolicy))
         (λ stop. FailsAmong (at key.now Retry (pairs_of fields.now)) stop) }
 {

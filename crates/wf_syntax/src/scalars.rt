@@ -1,7 +1,7 @@
 // Lists of scalars: values that are kept as they are.
 ghost use Rattle.std.specs.Prelude.{IfOk, IfSome, map};
 ghost use Rattle.wf_ast.specs.Tree.{Scalar, templates};
-ghost use Rattle.wf_syntax.specs.Answers.{Gives, GivesAll};
+ghost use Rattle.wf_syntax.specs.Answers.{IsSoundAnd, AreSoundAnd};
 ghost use Rattle.wf_syntax_rules.specs.Meaning.{AreValues, IsValue};
 ghost use Rattle.wf_syntax_rules.specs.Rules.{Value as AValue, each};
 ghost use Rattle.wf_tree.specs.Plain.{plain_items, plain_tree};
@@ -15,7 +15,7 @@ use wf_value::{List, OutOfMemory, Value};
 /// The value of a tree that is null, a truth value or a whole number.
 #[inline(always)]
 fn scalar(tree: &Tree) -> Option<Value>
-    ensures { IfSome result (λ v. Gives AValue (plain_tree tree.now)
+    ensures { IfSome result (λ v. IsSoundAnd AValue (plain_tree tree.now)
         (IsValue (Scalar (plain v)) (plain_tree tree.now))) }
 {
     match tree {
@@ -31,7 +31,7 @@ fn scalar(tree: &Tree) -> Option<Value>
 #[inline(never)]
 pub(crate) fn scalars(alloc: Global, items: &[Tree]) -> Result<Option<List>, OutOfMemory>
     ensures { IfOk result (λ o. IfSome o (λ l.
-        GivesAll (each AValue 0 (items_of (plain_items items.now)))
+        AreSoundAnd (each AValue 0 (items_of (plain_items items.now)))
         (AreValues (templates (map Scalar l)) (items_of (plain_items items.now))))) }
 {
     // a list that begins otherwise costs no allocation

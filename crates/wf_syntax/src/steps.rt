@@ -4,7 +4,7 @@ ghost use Rattle.wf_ast.specs.View.{arm_view, arms_in, body_view, branch_view, b
 ghost use Rattle.wf_syntax_rules.specs.Meaning.{AreSteps, IsExcept, IsStep, Maybe};
 ghost use Rattle.wf_syntax_rules.specs.Rules as rules;
 ghost use Rattle.wf_syntax_rules.specs.Rules.{at};
-ghost use Rattle.wf_syntax.specs.Answers.{Fails, FailsAmong, Gives, GivesAll};
+ghost use Rattle.wf_syntax.specs.Answers.{Fails, FailsAmong, IsSoundAnd, AreSoundAnd};
 ghost use Rattle.wf_syntax.specs.Forms.{AreArms, AreBlockParts, AreBranches, AreLoopParts, ArePartsOf, IsArm, IsBlock, IsBranch, IsHandler, IsLoopMap, IsParallelMap, IsStepBody, IsTriedMap, block_part_keys, ends_view, loop_of, loop_part_keys, over_of, parallel_view, row, work_of};
 ghost use Rattle.wf_tree.specs.Plain.{plain_tree};
 ghost use Rattle.wf_tree.specs.Trees.{pairs_of};
@@ -82,7 +82,7 @@ fn work(branches: Option<Branches>, repeated: Option<LoopBody>) -> Option<Work>
 /// Steps in their order.
 #[cycle(steps)]
 pub(crate) fn steps(alloc: Global, tree: &Tree) -> Result<StepList, Stop>
-    ensures { MatchResult result (λ ss. Gives rules.Steps (plain_tree tree.now)
+    ensures { MatchResult result (λ ss. IsSoundAnd rules.Steps (plain_tree tree.now)
         (AreSteps (steps_in ss) (plain_tree tree.now)))
         (λ stop. Fails rules.Steps (plain_tree tree.now) stop) }
 {
@@ -103,7 +103,7 @@ pub(crate) fn steps(alloc: Global, tree: &Tree) -> Result<StepList, Stop>
 /// The steps at a key, if they are there.
 #[cycle(steps)]
 pub(crate) fn steps_at(alloc: Global, fields: &TreeMap, key: &str) -> Result<Option<StepList>, Stop>
-    ensures { MatchResult result (λ o. GivesAll (at key.now rules.Steps (pairs_of fields.now))
+    ensures { MatchResult result (λ o. AreSoundAnd (at key.now rules.Steps (pairs_of fields.now))
         (Maybe (option_map steps_in o) key.now (pairs_of fields.now) AreSteps))
         (λ stop. FailsAmong (at key.now rules.Steps (pairs_of fields.now)) stop) }
 {
@@ -119,7 +119,7 @@ pub(crate) fn steps_at(alloc: Global, fields: &TreeMap, key: &str) -> Result<Opt
 /// A map of one, from a step's name to what the step does.
 #[cycle(steps)]
 fn step(alloc: Global, tree: &Tree) -> Result<Step, Stop>
-    ensures { MatchResult result (λ s. Gives rules.Step (plain_tree tree.now)
+    ensures { MatchResult result (λ s. IsSoundAnd rules.Step (plain_tree tree.now)
         (IsStep (step_view s) (plain_tree tree.now)))
         (λ stop. Fails rules.Step (plain_tree tree.now) stop) }
 {
@@ -143,7 +143,7 @@ fn step(alloc: Global, tree: &Tree) -> Result<Step, Stop>
 /// What a step does, and where it goes on.
 #[cycle(steps)]
 fn step_body(alloc: Global, tree: &Tree) -> Result<(Body, Option<Text>), Stop>
-    ensures { MatchResult result (λ r. Gives rules.Body (plain_tree tree.now)
+    ensures { MatchResult result (λ r. IsSoundAnd rules.Body (plain_tree tree.now)
         (IsStepBody (body_view r.0) r.1 (plain_tree tree.now)))
         (λ stop. Fails rules.Body (plain_tree tree.now) stop) }
 {
@@ -160,7 +160,7 @@ fn step_body(alloc: Global, tree: &Tree) -> Result<(Body, Option<Text>), Stop>
 /// What stands in the fields of a step or an arm, the fields in the order of their bytes.
 #[cycle(steps)]
 fn parts(alloc: Global, fields: &TreeMap) -> Result<Parts, Stop>
-    ensures { MatchResult result (λ p. GivesAll (rules.body_parts (pairs_of fields.now))
+    ensures { MatchResult result (λ p. AreSoundAnd (rules.body_parts (pairs_of fields.now))
         (ArePartsOf p (pairs_of fields.now)))
         (λ stop. FailsAmong (rules.body_parts (pairs_of fields.now)) stop) }
 {
@@ -175,7 +175,7 @@ fn parts(alloc: Global, fields: &TreeMap) -> Result<Parts, Stop>
 /// What stands in the fields from `except` to `parallel`.
 #[cycle(steps)]
 fn loop_parts(alloc: Global, fields: &TreeMap) -> Result<LoopParts, Stop>
-    ensures { MatchResult result (λ p. GivesAll (row (pairs_of fields.now) loop_part_keys)
+    ensures { MatchResult result (λ p. AreSoundAnd (row (pairs_of fields.now) loop_part_keys)
         (AreLoopParts p (pairs_of fields.now)))
         (λ stop. FailsAmong (row (pairs_of fields.now) loop_part_keys) stop) }
 {
@@ -190,7 +190,7 @@ fn loop_parts(alloc: Global, fields: &TreeMap) -> Result<LoopParts, Stop>
 /// What stands in the fields from `steps` to `try`.
 #[cycle(steps)]
 fn block_parts(alloc: Global, fields: &TreeMap) -> Result<BlockParts, Stop>
-    ensures { MatchResult result (λ p. GivesAll (row (pairs_of fields.now) block_part_keys)
+    ensures { MatchResult result (λ p. AreSoundAnd (row (pairs_of fields.now) block_part_keys)
         (AreBlockParts p (pairs_of fields.now)))
         (λ stop. FailsAmong (row (pairs_of fields.now) block_part_keys) stop) }
 {
@@ -204,7 +204,7 @@ fn block_parts(alloc: Global, fields: &TreeMap) -> Result<BlockParts, Stop>
 /// The arms of a `switch`.
 #[cycle(steps)]
 fn arms(alloc: Global, tree: &Tree) -> Result<Arms, Stop>
-    ensures { MatchResult result (λ all. Gives rules.Arms (plain_tree tree.now)
+    ensures { MatchResult result (λ all. IsSoundAnd rules.Arms (plain_tree tree.now)
         (AreArms (arms_in all) (plain_tree tree.now)))
         (λ stop. Fails rules.Arms (plain_tree tree.now) stop) }
 {
@@ -225,7 +225,7 @@ fn arms(alloc: Global, tree: &Tree) -> Result<Arms, Stop>
 /// The arms at a key, if they are there.
 #[cycle(steps)]
 fn arms_at(alloc: Global, fields: &TreeMap, key: &str) -> Result<Option<Arms>, Stop>
-    ensures { MatchResult result (λ o. GivesAll (at key.now rules.Arms (pairs_of fields.now))
+    ensures { MatchResult result (λ o. AreSoundAnd (at key.now rules.Arms (pairs_of fields.now))
         (Maybe (option_map arms_in o) key.now (pairs_of fields.now) AreArms))
         (λ stop. FailsAmong (at key.now rules.Arms (pairs_of fields.now)) stop) }
 {
@@ -241,7 +241,7 @@ fn arms_at(alloc: Global, fields: &TreeMap, key: &str) -> Result<Option<Arms>, S
 /// A condition, what is done where it holds, and where it goes on then.
 #[cycle(steps)]
 fn arm(alloc: Global, tree: &Tree) -> Result<Arm, Stop>
-    ensures { MatchResult result (λ a. Gives rules.Arm (plain_tree tree.now)
+    ensures { MatchResult result (λ a. IsSoundAnd rules.Arm (plain_tree tree.now)
         (IsArm (arm_view a) (plain_tree tree.now)))
         (λ stop. Fails rules.Arm (plain_tree tree.now) stop) }
 {
@@ -268,7 +268,7 @@ fn arm(alloc: Global, tree: &Tree) -> Result<Arm, Stop>
 /// A loop over the items of a list, or over a range.
 #[cycle(steps)]
 fn loop_body(alloc: Global, tree: &Tree) -> Result<LoopBody, Stop>
-    ensures { MatchResult result (λ l. Gives rules.Loop (plain_tree tree.now)
+    ensures { MatchResult result (λ l. IsSoundAnd rules.Loop (plain_tree tree.now)
         (IsLoopMap (loop_view l) (plain_tree tree.now)))
         (λ stop. Fails rules.Loop (plain_tree tree.now) stop) }
 {
@@ -292,7 +292,7 @@ fn loop_body(alloc: Global, tree: &Tree) -> Result<LoopBody, Stop>
 /// The loop at a key, if there is one.
 #[cycle(steps)]
 fn loop_at(alloc: Global, fields: &TreeMap, key: &str) -> Result<Option<LoopBody>, Stop>
-    ensures { MatchResult result (λ o. GivesAll (at key.now rules.Loop (pairs_of fields.now))
+    ensures { MatchResult result (λ o. AreSoundAnd (at key.now rules.Loop (pairs_of fields.now))
         (Maybe (option_map loop_view o) key.now (pairs_of fields.now) IsLoopMap))
         (λ stop. FailsAmong (at key.now rules.Loop (pairs_of fields.now)) stop) }
 {
@@ -308,7 +308,7 @@ fn loop_at(alloc: Global, fields: &TreeMap, key: &str) -> Result<Option<LoopBody
 /// Branches, or a loop, whose parts run at the same time.
 #[cycle(steps)]
 fn parallel(alloc: Global, tree: &Tree) -> Result<ParallelBody, Stop>
-    ensures { MatchResult result (λ p. Gives rules.Parallel (plain_tree tree.now)
+    ensures { MatchResult result (λ p. IsSoundAnd rules.Parallel (plain_tree tree.now)
         (IsParallelMap (parallel_view p) (plain_tree tree.now)))
         (λ stop. Fails rules.Parallel (plain_tree tree.now) stop) }
 {
@@ -336,7 +336,7 @@ fn parallel(alloc: Global, tree: &Tree) -> Result<ParallelBody, Stop>
 /// The parallel step at a key, if there is one.
 #[cycle(steps)]
 fn parallel_at(alloc: Global, fields: &TreeMap, key: &str) -> Result<Option<ParallelBody>, Stop>
-    ensures { MatchResult result (λ o. GivesAll (at key.now rules.Parallel (pairs_of fields.now))
+    ensures { MatchResult result (λ o. AreSoundAnd (at key.now rules.Parallel (pairs_of fields.now))
         (Maybe (option_map parallel_view o) key.now (pairs_of fields.now) IsParallelMap))
         (λ stop. FailsAmong (at key.now rules.Parallel (pairs_of fields.now)) stop) }
 {
@@ -352,7 +352,7 @@ fn parallel_at(alloc: Global, fields: &TreeMap, key: &str) -> Result<Option<Para
 /// The branches of a parallel step.
 #[cycle(steps)]
 fn branches(alloc: Global, tree: &Tree) -> Result<Branches, Stop>
-    ensures { MatchResult result (λ bs. Gives rules.Branches (plain_tree tree.now)
+    ensures { MatchResult result (λ bs. IsSoundAnd rules.Branches (plain_tree tree.now)
         (AreBranches (branches_in bs) (plain_tree tree.now)))
         (λ stop. Fails rules.Branches (plain_tree tree.now) stop) }
 {
@@ -373,7 +373,7 @@ fn branches(alloc: Global, tree: &Tree) -> Result<Branches, Stop>
 /// The branches at a key, if they are there.
 #[cycle(steps)]
 fn branches_at(alloc: Global, fields: &TreeMap, key: &str) -> Result<Option<Branches>, Stop>
-    ensures { MatchResult result (λ o. GivesAll (at key.now rules.Branches (pairs_of fields.now))
+    ensures { MatchResult result (λ o. AreSoundAnd (at key.now rules.Branches (pairs_of fields.now))
         (Maybe (option_map branches_in o) key.now (pairs_of fields.now) AreBranches))
         (λ stop. FailsAmong (at key.now rules.Branches (pairs_of fields.now)) stop) }
 {
@@ -389,7 +389,7 @@ fn branches_at(alloc: Global, fields: &TreeMap, key: &str) -> Result<Option<Bran
 /// A map of one, from a branch's name to its steps.
 #[cycle(steps)]
 fn branch(alloc: Global, tree: &Tree) -> Result<Branch, Stop>
-    ensures { MatchResult result (λ b. Gives rules.Branch (plain_tree tree.now)
+    ensures { MatchResult result (λ b. IsSoundAnd rules.Branch (plain_tree tree.now)
         (IsBranch (branch_view b) (plain_tree tree.now)))
         (λ stop. Fails rules.Branch (plain_tree tree.now) stop) }
 {
@@ -408,7 +408,7 @@ fn branch(alloc: Global, tree: &Tree) -> Result<Branch, Stop>
 /// A map of steps alone.
 #[cycle(steps)]
 fn block(alloc: Global, tree: &Tree) -> Result<StepList, Stop>
-    ensures { MatchResult result (λ ss. Gives rules.Block (plain_tree tree.now)
+    ensures { MatchResult result (λ ss. IsSoundAnd rules.Block (plain_tree tree.now)
         (IsBlock (steps_in ss) (plain_tree tree.now)))
         (λ stop. Fails rules.Block (plain_tree tree.now) stop) }
 {
@@ -427,7 +427,7 @@ fn block(alloc: Global, tree: &Tree) -> Result<StepList, Stop>
 /// What is tried: a call, or steps.
 #[cycle(steps)]
 fn tried(alloc: Global, tree: &Tree) -> Result<Body, Stop>
-    ensures { MatchResult result (λ b. Gives rules.Try (plain_tree tree.now)
+    ensures { MatchResult result (λ b. IsSoundAnd rules.Try (plain_tree tree.now)
         (IsTriedMap (body_view b) (plain_tree tree.now)))
         (λ stop. Fails rules.Try (plain_tree tree.now) stop) }
 {
@@ -451,7 +451,7 @@ fn tried(alloc: Global, tree: &Tree) -> Result<Body, Stop>
 /// What is tried at a key, if it is there.
 #[cycle(steps)]
 fn try_at(alloc: Global, fields: &TreeMap, key: &str) -> Result<Option<Body>, Stop>
-    ensures { MatchResult result (λ o. GivesAll (at key.now rules.Try (pairs_of fields.now))
+    ensures { MatchResult result (λ o. AreSoundAnd (at key.now rules.Try (pairs_of fields.now))
         (Maybe (option_map body_view o) key.now (pairs_of fields.now) IsTriedMap))
         (λ stop. FailsAmong (at key.now rules.Try (pairs_of fields.now)) stop) }
 {
@@ -467,7 +467,7 @@ fn try_at(alloc: Global, fields: &TreeMap, key: &str) -> Result<Option<Body>, St
 /// The steps that take an error, and the name that it has there.
 #[cycle(steps)]
 fn except(alloc: Global, tree: &Tree) -> Result<Except, Stop>
-    ensures { MatchResult result (λ x. Gives rules.Except (plain_tree tree.now)
+    ensures { MatchResult result (λ x. IsSoundAnd rules.Except (plain_tree tree.now)
         (IsHandler (except_view x) (plain_tree tree.now)))
         (λ stop. Fails rules.Except (plain_tree tree.now) stop) }
 {
@@ -488,7 +488,7 @@ fn except(alloc: Global, tree: &Tree) -> Result<Except, Stop>
 /// The steps that take an error, where they are at `except`.
 #[cycle(steps)]
 fn except_at(alloc: Global, fields: &TreeMap) -> Result<Option<Except>, Stop>
-    ensures { MatchResult result (λ o. GivesAll
+    ensures { MatchResult result (λ o. AreSoundAnd
         (at (codes "except") rules.Except (pairs_of fields.now))
         (IsExcept (except_option_view o) (pairs_of fields.now)))
         (λ stop. FailsAmong (at (codes "except") rules.Except (pairs_of fields.now)) stop) }

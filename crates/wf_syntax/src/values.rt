@@ -3,7 +3,7 @@ ghost use Rattle.std.specs.Prelude.{option_map, MatchResult};
 ghost use Rattle.wf_ast.specs.Tree.{fields as fields_of, no_fields, templates};
 ghost use Rattle.wf_ast.specs.View.{fields_view, template_view, templates_view};
 ghost use Rattle.wf_syntax.specs.Forms.{ends_view};
-ghost use Rattle.wf_syntax.specs.Answers.{Fails, FailsAmong, Gives, GivesAll};
+ghost use Rattle.wf_syntax.specs.Answers.{Fails, FailsAmong, IsSoundAnd, AreSoundAnd};
 ghost use Rattle.wf_syntax_rules.specs.Meaning.{AreArguments, AreNamed, AreValues, IsRange, IsValue, Else, Maybe};
 ghost use Rattle.wf_syntax_rules.specs.Rules.{Arguments, Range, Value as AValue, at, each, every};
 ghost use Rattle.wf_tree.specs.Plain.{plain_items, plain_pairs, plain_tree};
@@ -23,7 +23,7 @@ use wf_value::{Text, Value};
 /// A value with expressions in it.
 #[cycle(value)]
 pub(crate) fn value(alloc: Global, tree: &Tree) -> Result<Template, Stop>
-    ensures { MatchResult result (λ v. Gives AValue (plain_tree tree.now)
+    ensures { MatchResult result (λ v. IsSoundAnd AValue (plain_tree tree.now)
         (IsValue (template_view v) (plain_tree tree.now)))
         (λ stop. Fails AValue (plain_tree tree.now) stop) }
 {
@@ -46,7 +46,7 @@ pub(crate) fn value(alloc: Global, tree: &Tree) -> Result<Template, Stop>
 
 /// A text as a value.
 fn text_value(alloc: Global, text: &str) -> Result<Template, Stop>
-    ensures { MatchResult result (λ v. Gives AValue (a_text text.now)
+    ensures { MatchResult result (λ v. IsSoundAnd AValue (a_text text.now)
         (IsTemplateOf text.now (template_view v))) (λ stop. Fails AValue (a_text text.now) stop) }
 {
     // laws that the proof uses
@@ -60,7 +60,8 @@ fn text_value(alloc: Global, text: &str) -> Result<Template, Stop>
 
 #[cycle(value)]
 fn values(alloc: Global, items: &[Tree]) -> Result<Templates, Stop>
-    ensures { MatchResult result (λ vs. GivesAll (each AValue 0 (items_of (plain_items items.now)))
+    ensures { MatchResult result (λ vs. AreSoundAnd
+        (each AValue 0 (items_of (plain_items items.now)))
         (AreValues (templates (templates_view vs)) (items_of (plain_items items.now))))
         (λ stop. FailsAmong (each AValue 0 (items_of (plain_items items.now))) stop) }
 {
@@ -76,7 +77,7 @@ fn values(alloc: Global, items: &[Tree]) -> Result<Templates, Stop>
 
 #[cycle(value)]
 fn named_values(alloc: Global, pairs: &[(Text, Tree)]) -> Result<NamedTemplates, Stop>
-    ensures { MatchResult result (λ vs. GivesAll
+    ensures { MatchResult result (λ vs. AreSoundAnd
         (every (λ x. AValue) (pairs_of (plain_pairs pairs.now)))
         (AreNamed (fields_of (fields_view vs)) (pairs_of (plain_pairs pairs.now))))
         (λ stop. FailsAmong (every (λ x. AValue) (pairs_of (plain_pairs pairs.now))) stop) }
@@ -95,7 +96,7 @@ fn named_values(alloc: Global, pairs: &[(Text, Tree)]) -> Result<NamedTemplates,
 
 /// Values by name.
 fn arguments(alloc: Global, tree: &Tree) -> Result<NamedTemplates, Stop>
-    ensures { MatchResult result (λ vs. Gives Arguments (plain_tree tree.now)
+    ensures { MatchResult result (λ vs. IsSoundAnd Arguments (plain_tree tree.now)
         (AreArguments (fields_of (fields_view vs)) (plain_tree tree.now)))
         (λ stop. Fails Arguments (plain_tree tree.now) stop) }
 {
@@ -109,7 +110,7 @@ fn arguments(alloc: Global, tree: &Tree) -> Result<NamedTemplates, Stop>
 pub(crate) type Ends = (Template, Template);
 
 fn range(alloc: Global, tree: &Tree) -> Result<Ends, Stop>
-    ensures { MatchResult result (λ r. Gives Range (plain_tree tree.now)
+    ensures { MatchResult result (λ r. IsSoundAnd Range (plain_tree tree.now)
         (IsRange (template_view r.0) (template_view r.1) (plain_tree tree.now)))
         (λ stop. Fails Range (plain_tree tree.now) stop) }
 {
@@ -131,7 +132,7 @@ fn range(alloc: Global, tree: &Tree) -> Result<Ends, Stop>
 
 /// The value at a key, if there is one.
 pub(crate) fn value_at(alloc: Global, fields: &TreeMap, key: &str) -> Result<Option<Template>, Stop>
-    ensures { MatchResult result (λ o. GivesAll (at key.now AValue (pairs_of fields.now))
+    ensures { MatchResult result (λ o. AreSoundAnd (at key.now AValue (pairs_of fields.now))
         (Maybe (option_map template_view o) key.now (pairs_of fields.now) IsValue))
         (λ stop. FailsAmong (at key.now AValue (pairs_of fields.now)) stop) }
 {
@@ -150,7 +151,7 @@ pub(crate) fn arguments_at(
     fields: &TreeMap,
     key: &str,
 ) -> Result<NamedTemplates, Stop>
-    ensures { MatchResult result (λ vs. GivesAll (at key.now Arguments (pairs_of fields.now))
+    ensures { MatchResult result (λ vs. AreSoundAnd (at key.now Arguments (pairs_of fields.now))
         (Else (fields_of (fields_view vs)) no_fields key.now (pairs_of fields.now) AreArguments))
         (λ stop. FailsAmong (at key.now Arguments (pairs_of fields.now)) stop) }
 {
@@ -165,7 +166,7 @@ pub(crate) fn arguments_at(
 
 /// The two ends of the range at a key, if there is one.
 pub(crate) fn range_at(alloc: Global, fields: &TreeMap, key: &str) -> Result<Option<Ends>, Stop>
-    ensures { MatchResult result (λ o. GivesAll (at key.now Range (pairs_of fields.now))
+    ensures { MatchResult result (λ o. AreSoundAnd (at key.now Range (pairs_of fields.now))
         (Maybe (option_map ends_view o) key.now (pairs_of fields.now) (λ r x. IsRange r.0 r.1 x)))
         (λ stop. FailsAmong (at key.now Range (pairs_of fields.now)) stop) }
 {

@@ -1,8 +1,8 @@
 // Texts and names of the language.
 ghost use Rattle.std.specs.Prelude.{◌≡◌, [], MatchResult};
 ghost use Rattle.wf_ast.specs.View.{texts_view};
-ghost use Rattle.wf_syntax.specs.Answers.{Fails, FailsAmong, Gives, GivesAll};
-ghost use Rattle.wf_syntax.specs.declared.stop.Stop.TheVariants as stop;
+ghost use Rattle.wf_syntax.specs.Answers.{Fails, FailsAmong, IsSoundAnd, AreSoundAnd};
+ghost use Rattle.wf_value.specs.declared.stop.Stop.TheVariants as stop;
 ghost use Rattle.wf_syntax_rules.specs.Faults.{AreSound, IsSound};
 ghost use Rattle.wf_syntax_rules.specs.Meaning.{AreTexts, Else, IsLimit, IsText, Maybe};
 ghost use Rattle.wf_syntax_rules.specs.Rules.{AnyText, Limit, Policy, Shared, VariableName, at};
@@ -20,6 +20,7 @@ use wf_value::Text;
 /// How many parts of a parallel step a limit may let run at once.
 const MOST_AT_ONCE: u32 = 1000;
 
+/// A text of the program's own, with these characters.
 pub(crate) fn owned(alloc: Global, text: &str) -> Result<Text, Stop>
     ensures { MatchResult result (λ t. t ≡ text.now) (λ s. s ≡ stop.OutOfMemory) }
 {
@@ -28,7 +29,7 @@ pub(crate) fn owned(alloc: Global, text: &str) -> Result<Text, Stop>
 
 /// Any text.
 fn any_text(alloc: Global, tree: &Tree) -> Result<Text, Stop>
-    ensures { MatchResult result (λ x. Gives AnyText (plain_tree tree.now)
+    ensures { MatchResult result (λ x. IsSoundAnd AnyText (plain_tree tree.now)
         (IsText x (plain_tree tree.now))) (λ stop. Fails AnyText (plain_tree tree.now) stop) }
 {
     match tree {
@@ -39,7 +40,7 @@ fn any_text(alloc: Global, tree: &Tree) -> Result<Text, Stop>
 
 /// The name of a variable.
 fn variable_name(alloc: Global, tree: &Tree) -> Result<Text, Stop>
-    ensures { MatchResult result (λ x. Gives VariableName (plain_tree tree.now)
+    ensures { MatchResult result (λ x. IsSoundAnd VariableName (plain_tree tree.now)
         (IsText x (plain_tree tree.now))) (λ stop. Fails VariableName (plain_tree tree.now) stop) }
 {
     match tree {
@@ -56,7 +57,7 @@ fn variable_name(alloc: Global, tree: &Tree) -> Result<Text, Stop>
 
 /// The text at a key, if there is one.
 pub(crate) fn text_at(alloc: Global, fields: &TreeMap, key: &str) -> Result<Option<Text>, Stop>
-    ensures { MatchResult result (λ o. GivesAll (at key.now AnyText (pairs_of fields.now))
+    ensures { MatchResult result (λ o. AreSoundAnd (at key.now AnyText (pairs_of fields.now))
         (Maybe o key.now (pairs_of fields.now) IsText))
         (λ stop. FailsAmong (at key.now AnyText (pairs_of fields.now)) stop) }
 {
@@ -71,7 +72,7 @@ pub(crate) fn text_at(alloc: Global, fields: &TreeMap, key: &str) -> Result<Opti
 
 /// The name of a variable at a key, if there is one.
 pub(crate) fn name_at(alloc: Global, fields: &TreeMap, key: &str) -> Result<Option<Text>, Stop>
-    ensures { MatchResult result (λ o. GivesAll (at key.now VariableName (pairs_of fields.now))
+    ensures { MatchResult result (λ o. AreSoundAnd (at key.now VariableName (pairs_of fields.now))
         (Maybe o key.now (pairs_of fields.now) IsText))
         (λ stop. FailsAmong (at key.now VariableName (pairs_of fields.now)) stop) }
 {
@@ -86,7 +87,7 @@ pub(crate) fn name_at(alloc: Global, fields: &TreeMap, key: &str) -> Result<Opti
 
 /// The names of variables in a list.
 fn names(alloc: Global, tree: &Tree) -> Result<Texts, Stop>
-    ensures { MatchResult result (λ xs. Gives Shared (plain_tree tree.now)
+    ensures { MatchResult result (λ xs. IsSoundAnd Shared (plain_tree tree.now)
         (AreTexts (texts_view xs) (plain_tree tree.now)))
         (λ stop. Fails Shared (plain_tree tree.now) stop) }
 {
@@ -106,7 +107,7 @@ fn names(alloc: Global, tree: &Tree) -> Result<Texts, Stop>
 
 /// The names of variables at a key, and none where it isn't there.
 pub(crate) fn names_at(alloc: Global, fields: &TreeMap, key: &str) -> Result<Texts, Stop>
-    ensures { MatchResult result (λ xs. GivesAll (at key.now Shared (pairs_of fields.now))
+    ensures { MatchResult result (λ xs. AreSoundAnd (at key.now Shared (pairs_of fields.now))
         (Else (texts_view xs) [] key.now (pairs_of fields.now) AreTexts))
         (λ stop. FailsAmong (at key.now Shared (pairs_of fields.now)) stop) }
 {
@@ -121,7 +122,7 @@ pub(crate) fn names_at(alloc: Global, fields: &TreeMap, key: &str) -> Result<Tex
 
 /// The limit on parts at once at a key, if there is one.
 pub(crate) fn limit_at(alloc: Global, fields: &TreeMap, key: &str) -> Result<Option<u32>, Stop>
-    ensures { MatchResult result (λ o. GivesAll (at key.now Limit (pairs_of fields.now))
+    ensures { MatchResult result (λ o. AreSoundAnd (at key.now Limit (pairs_of fields.now))
         (Maybe o key.now (pairs_of fields.now) IsLimit))
         (λ stop. FailsAmong (at key.now Limit (pairs_of fields.now)) stop) }
 {

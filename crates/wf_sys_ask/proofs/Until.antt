@@ -2,7 +2,7 @@
 use Rattle.std.proofs.Common.{◌≡◌, ℕ, Ok, Err, None, Some, sym}
 use Rattle.std.specs.Prelude.{◌*◌, pos, Option, Result}
 use Rattle.wf_eval.specs.Answers.{Answers}
-use Rattle.wf_lib_time.specs.Gives.{Gives}
+use Rattle.wf_value.specs.Answers.{IsAnswerOf}
 use Rattle.wf_model.specs.Calls.{until_due}
 use Rattle.wf_value.specs.LibTime.{parsed_time, time_parse}
 use Rattle.wf_value.specs.Data.{Data, boolean, bytes, integer, list, map, null, text}
@@ -30,7 +30,7 @@ until_err (bytes s) t h = no_text t h
 until_err (list vs) t h = no_text t h
 until_err (map ps) t h = no_text t h
 
-pub until_failed : (d : Data) (e : Raise) → Gives (Err e) (time_parse d) → Answers (λ (n : ℕ). n) (Err e) (until_due (Some d))
+pub until_failed : (d : Data) (e : Raise) → IsAnswerOf (Err e) (time_parse d) → Answers (λ (n : ℕ). n) (Err e) (until_due (Some d))
 until_failed d OutOfMemory h = tt
 until_failed d (Error t) h = until_err d t h
 

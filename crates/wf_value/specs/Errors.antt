@@ -1,6 +1,6 @@
 -- The errors that the language raises: a tag, and the map that stands for it.
 use Rattle.std.specs.Prelude.{ℕ, ◌+◌, min, ◌&&◌, List, [], ◌∷◌, ◌++◌, pos, if◌then◌else◌, nat_le, Some, None, Ok, Err, codes, decimal, Option, Result}
-use Rattle.wf_value.specs.Data.{Data, integer, text, list, map, depth, size}
+use Rattle.wf_value.specs.Data.{Data, integer, text, list, map, depth, depth_limit, size, size_limit}
 use Rattle.wf_value.specs.Pairs.{Text, map_of, text_items}
 pub use Rattle.wf_value.specs.declared.errors.Tag.{Tag}
 pub use Rattle.wf_value.specs.declared.errors.Tag.TheVariants.{ConnectionError, HttpError, IndexError, KeyError, ParallelNestingError, RecursionError, ResourceLimitError, ResponseTypeError, TimeoutError, TypeError, UnhandledBranchError, ValueError, ZeroDivisionError}
@@ -68,19 +68,19 @@ or_error t (Some a) = Ok a
 
 -- a value within the limit on size
 abbrev pub sized : Data → Answer Data
-sized v = if nat_le (size v) 4194304 then Ok v else Err ResourceLimitError
+sized v = if nat_le (size v) size_limit then Ok v else Err ResourceLimitError
 
 -- a value within the limits on size and on nesting
 abbrev pub kept : Data → Answer Data
-kept v = if nat_le (size v) 4194304 && nat_le (depth v) 100 then Ok v else Err ResourceLimitError
+kept v = if nat_le (size v) size_limit && nat_le (depth v) depth_limit then Ok v else Err ResourceLimitError
 
 -- the map of a call's answer or of a callback, or a ResourceLimitError past these limits
 abbrev pub as_result : Data → Result Data Data
-as_result v = if nat_le (size v) 4194304 && nat_le (depth v) 100 then Ok v else Err (error_map ResourceLimitError)
+as_result v = if nat_le (size v) size_limit && nat_le (depth v) depth_limit then Ok v else Err (error_map ResourceLimitError)
 
 -- an error that is raised, or a ResourceLimitError where it nests too deep
 abbrev pub nested_error : Data → Data
-nested_error e = if nat_le (depth e) 100 then e else error_map ResourceLimitError
+nested_error e = if nat_le (depth e) depth_limit then e else error_map ResourceLimitError
 
 -- a sum of moments stops at the greatest u64
 abbrev pub later : ℕ → ℕ → ℕ

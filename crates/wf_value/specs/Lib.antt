@@ -23,3 +23,5 @@ pub mod HttpUrl
 pub mod HttpRequest
 pub mod HttpBody
 pub mod RowsTexts
+pub mod Answers
+pub mod Stops

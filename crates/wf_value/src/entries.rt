@@ -1,5 +1,5 @@
 // The pairs of a map, in the order of their keys.
-ghost use Rattle.std.specs.Prelude.{◌≡◌, Err, IfOk, None, Ok, Some, is_ok, length, slice_get, if◌then◌else◌};
+ghost use Rattle.std.specs.Prelude.{◌≡◌, Err, IfOk, None, Ok, Some, is_ok, length, if◌then◌else◌};
 ghost use Rattle.std.specs.List.Sorted.{IsSearchInRange};
 ghost use Rattle.std.specs.Option.{option_copied};
 ghost use Rattle.std_collections.specs.Layout.BTreeMap.{seek};
@@ -8,6 +8,7 @@ ghost use Rattle.wf_value.specs.Maps.{IsInOrder, key_cmp, value_at, with_value, 
 ghost use Rattle.wf_value.specs.Measures.{IsMeasure};
 ghost use Rattle.wf_value.specs.Plain.{plain_pairs};
 
+use crate::keys::key_order;
 use crate::measure::Measure;
 use crate::sharing::own_entries;
 use crate::value::Entries;
@@ -222,38 +223,13 @@ pub(crate) fn seek(pairs: &[(Text, Value)], key: &str) -> Result<usize, usize>
     let mut high = pairs.len();
     while low < high {
         let middle = low + (high - low) / 2;
-        match order(pairs[middle].0.as_str(), key, first) {
+        match key_order(pairs[middle].0.as_str(), key, first) {
             Ordering::Less => low = middle + 1,
             Ordering::Greater => high = middle,
             Ordering::Equal => return Ok(middle),
         }
     }
     Err(low)
-}
-
-/// The order of two keys, the second with its first byte. Most are settled by their first bytes, which `cmp` doesn't look at first.
-#[inline(always)]
-fn order(a: &str, b: &str, first: Option<u8>) -> Ordering
-    requires { first ≡ slice_get b.now 0 }
-    ensures { result ≡ key_cmp a.now b.now }
-{
-    let x = a.as_bytes();
-    let Some(y) = first else {
-        return a.cmp(b);
-    };
-    if x.is_empty() {
-        return a.cmp(b);
-    }
-    if x[0] < y {
-        return Ordering::Less;
-    }
-    if x[0] > y {
-        return Ordering::Greater;
-    }
-    if x.len() == 1 && b.len() == 1 {
-        return Ordering::Equal;
-    }
-    a.cmp(b)
 }
 
 fn take(pairs: &mut Vec<(Text, Value)>, key: &str) -> Option<Value>

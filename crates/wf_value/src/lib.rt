@@ -3,6 +3,7 @@
 //! retry policies and severities.
 #![tactic(auto)]
 
+mod answers;
 mod bytes;
 mod depth;
 mod entries;
@@ -10,7 +11,10 @@ mod errors;
 mod items;
 mod json_laws;
 mod json_text;
+mod keys;
+mod limits;
 mod measure;
+mod media_type;
 mod numbers;
 mod out_of_memory;
 mod pairs;
@@ -20,20 +24,26 @@ mod same;
 mod severity;
 mod sharing;
 mod size;
+mod stop;
 mod text;
 mod value;
 mod worked;
 
+pub use answers::{sized, sized_bytes, sized_text};
 pub use bytes::Bytes;
 pub use errors::{Raise, Tag, error_map};
 pub use json_laws::{reading_is_a_function, reading_is_decided};
 pub use json_text::{JsonFault, from_json, to_json};
+pub use keys::key_order;
+pub use limits::{MAX_DEPTH, MAX_SIZE, limits_are_as_defined};
+pub use media_type::media_type_of;
 pub use numbers::{NumFault, add, div, mul, neg, rem, sub, trunc_div};
 pub use out_of_memory::OutOfMemory;
 pub use pairs::Pairs;
 pub use path::{Path, PathPart};
 pub use policies::{Backoff, DefaultKind};
 pub use severity::Severity;
+pub use stop::Stop;
 pub use text::Text;
 pub use value::{List, Map, Value};
 pub use worked::worked_texts;

@@ -22,6 +22,7 @@ impl Measure {
         Measure { size: 2, depth: 1 }
     }
 
+    /// Of a value.
     pub(crate) fn of_value(value: &Value) -> Measure
         ensures { IsMeasure result (plain value.now) }
     {

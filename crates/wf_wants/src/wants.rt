@@ -2,7 +2,7 @@
 ghost use Rattle.std.specs.Prelude.{◌≡◌, ◌<◌, ℕ, IfOk, List, length, slice_get};
 ghost use Rattle.wf_ast.specs.Flows.{flow};
 ghost use Rattle.wf_ast.specs.Tree.{Body, Flow, Program};
-ghost use Rattle.wf_frames.specs.Built.{AreTargets, IsTarget, Tells};
+ghost use Rattle.wf_frames.specs.Built.{AreTargets, IsTarget, IsTableOf};
 ghost use Rattle.wf_frames.specs.Kinds.{AreWants, kind_view};
 ghost use Rattle.wf_model.specs.Kinds.{arms_now, body_kind, by_clock, call_kind, entry_now, is_now, over_now, template_now};
 ghost use Rattle.wf_model.specs.NodeKinds.{entry_by, over_by};
@@ -14,7 +14,7 @@ use crate::clock::{is_clock_among, is_clock_in, is_clock_named, is_now};
 use std::alloc::Global;
 use wf_ast::Postfix;
 use wf_frames::{Kind, Target, Wants, first_of};
-use wf_model::{EntryNode, Node, NodeKind, OverShape};
+use wf_model::{EntryNode, Node, NodeKind, OverShape, WorkNode};
 use wf_value::OutOfMemory;
 
 /// With a reading, or without.
@@ -34,7 +34,7 @@ fn is_entry_clock(entry: &EntryNode, codes: &[Postfix]) -> bool
 /// Whether the entry of this number does.
 fn is_entry_at(nodes: &[Node], n: usize) -> bool
     ghost ns: { List Spot }
-    requires tells { Tells ns nodes.now }
+    requires tells { IsTableOf ns nodes.now }
     requires within { n < length nodes.now }
     ensures { result ≡ entry_now (part_entry (part_at ns n)) }
 {
@@ -58,7 +58,7 @@ fn is_over(over: &OverShape, codes: &[Postfix]) -> bool
 /// Whether the condition of this number does.
 fn is_condition(nodes: &[Node], n: u32) -> bool
     ghost ns: { List Spot }
-    requires tells { Tells ns nodes.now }
+    requires tells { IsTableOf ns nodes.now }
     requires within { n < length nodes.now }
     ensures { result ≡ template_now (part_condition (part_at ns n)) }
 {
@@ -72,7 +72,7 @@ fn is_condition(nodes: &[Node], n: u32) -> bool
 /// Whether the condition of one of some arms does.
 fn are_arms(nodes: &[Node], arms: &[u32]) -> bool
     ghost ns: { List Spot }
-    requires tells { Tells ns nodes.now }
+    requires tells { IsTableOf ns nodes.now }
     requires arms { (owners : List ℕ) × ArmsStandIn ns (length nodes.now) owners arms.now }
     ensures { result ≡ arms_now (arms_by ns arms.now) }
 {
@@ -87,7 +87,7 @@ fn are_arms(nodes: &[Node], arms: &[u32]) -> bool
 /// Of the first entry of an assign.
 fn first_kind(nodes: &[Node], numbers: &[u32]) -> Kind
     ghost ns: { List Spot }
-    requires tells { Tells ns nodes.now }
+    requires tells { IsTableOf ns nodes.now }
     requires entries { AreBelow (length nodes.now) numbers.now }
     ensures { (p : Program) → kind_view result
         ≡ body_kind p (Body.Assign (entries_by ns numbers.now)) }
@@ -119,7 +119,7 @@ fn call_kind(targets: &[Target], n: usize, clock: bool) -> Kind
 /// Of the body of a node.
 fn node_kind(nodes: &[Node], targets: &[Target], n: usize) -> Kind
     ghost ns: { List Spot }
-    requires tells { Tells ns nodes.now }
+    requires tells { IsTableOf ns nodes.now }
     requires within { n < length nodes.now }
     ensures { (p : Program) → AreTargets p.flows ns nodes.now targets.now
         → kind_view result ≡ body_kind p (part_body (part_at ns n)) }
@@ -135,7 +135,10 @@ fn node_kind(nodes: &[Node], targets: &[Target], n: usize) -> Kind
         NodeKind::Call(call) => call_kind(targets, n, is_clock_named(&call.args, codes)),
         NodeKind::Block(_) => Kind::Plain,
         NodeKind::Try(_) => Kind::Plain,
-        NodeKind::Parallel(_) => unreachable!(),
+        NodeKind::Parallel(body) => match &body.work {
+            WorkNode::Branches(_) => Kind::Plain,
+            WorkNode::Loop(repeated) => by_clock(is_over(&repeated.over, codes)),
+        },
         _ => Kind::Plain,
     }
 }
@@ -147,7 +150,7 @@ pub fn wants_of(
     targets: &[Target],
 ) -> Result<Vec<Wants>, OutOfMemory>
     ghost ns: { List Spot }
-    requires tells { Tells ns nodes.now }
+    requires tells { IsTableOf ns nodes.now }
     ensures { IfOk result (λ v. (p : Program) → AreTargets p.flows ns nodes.now targets.now
         → AreWants p ns nodes.now v.items) }
 {

@@ -13,7 +13,7 @@ use Rattle.wf_yaml_flow.specs.Line.{one_line}
 use Rattle.wf_yaml_line.specs.Marks.{behind_first, ends_line, skip_blanks}
 use Rattle.wf_tree.specs.Plain.{plain_tree}
 use Rattle.wf_tree.specs.declared.tree.Tree.{Tree as Node}
-use Rattle.wf_yaml_line.specs.Views.{Gives}
+use Rattle.wf_yaml_line.specs.Views.{ReadsAs}
 use Rattle.wf_yaml_line.specs.declared.fault.Fault.{Fault}
 use Rattle.wf_yaml_line.specs.declared.fault.YamlFault.{YamlFault}
 use Rattle.wf_yaml.specs.BlockScalars.{block_scalar, block_lines, header_fault, is_folded, is_stripped, scalar_indent}
@@ -136,6 +136,6 @@ reading_of_is rs =
     (both_is kept (IsShallow 1) Any (λ t. depth t ≤ 100) _ (no_mark (behind_start (counting rs))) (λ t a p q. p) (node_is 100 0 1 no_delay (counting (before_mark (behind_start (counting rs))))) (any _)) (any _)
 
 -- so is a tree that was given
-pub depth_given : (r : Result Node YamlFault) (read : Result Tree Fault) → Gives plain_tree r read → IfOk read (λ t. depth t ≤ 100) → IfOk r (λ t. depth (plain_tree t) ≤ 100)
+pub depth_given : (r : Result Node YamlFault) (read : Result Tree Fault) → ReadsAs plain_tree r read → IfOk read (λ t. depth t ≤ 100) → IfOk r (λ t. depth (plain_tree t) ≤ 100)
 depth_given (Ok t) read is all = subst (λ q. IfOk q (λ u. depth u ≤ 100)) is all
 depth_given (Err e) read is all = tt

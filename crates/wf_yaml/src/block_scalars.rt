@@ -5,7 +5,7 @@ ghost use Rattle.wf_tree.specs.Trees as trees;
 ghost use Rattle.wf_tree.specs.Plain.{plain_tree};
 ghost use Rattle.wf_yaml_line.specs.Fault.{noted};
 ghost use Rattle.wf_yaml_line.specs.Marks as marks;
-ghost use Rattle.wf_yaml_line.specs.Views.{Gives};
+ghost use Rattle.wf_yaml_line.specs.Views.{ReadsAs};
 ghost use Rattle.wf_yaml.specs.BlockScalars as scalars;
 ghost use Rattle.wf_yaml.specs.Views.{see, see_all};
 
@@ -26,7 +26,7 @@ pub(crate) fn block_scalar(
     text: &[char],
     behind: &[Row],
 ) -> Result<Tree, YamlFault>
-    ensures { Gives plain_tree result
+    ensures { ReadsAs plain_tree result
         (scalars.block_scalar floor number text.now (see_all behind.now)) }
 {
     let tree = match scalar_indent(floor, behind) {
@@ -95,7 +95,7 @@ fn lines_tree(
     indent: usize,
     behind: &[Row],
 ) -> Result<Tree, YamlFault>
-    ensures { Gives plain_tree result
+    ensures { ReadsAs plain_tree result
         (scalars.block_lines folded stripped (Some indent) (see_all behind.now)) }
 {
     let (inside, rest) = behind.split_at(inside_len(indent, behind));
@@ -105,7 +105,7 @@ fn lines_tree(
 }
 
 fn text_tree(alloc: Global, text: &[char]) -> Result<Tree, YamlFault>
-    ensures { Gives plain_tree result (Ok (trees.text (encode_utf8_all text.now))) }
+    ensures { ReadsAs plain_tree result (Ok (trees.text (encode_utf8_all text.now))) }
 {
     Ok(Tree::Text(text_of(alloc, text)?))
 }

@@ -8,7 +8,7 @@ ghost use Rattle.wf_yaml_line.specs.Fault.{noted, both};
 ghost use Rattle.wf_yaml_line.specs.Keys.{key_of};
 ghost use Rattle.wf_yaml_line.specs.Scalars as scalars;
 ghost use Rattle.wf_yaml_line.specs.Marks.{is_one_of};
-ghost use Rattle.wf_yaml_line.specs.Views.{Gives, so_far, key_view, keys_of};
+ghost use Rattle.wf_yaml_line.specs.Views.{ReadsAs, so_far, key_view, keys_of};
 ghost use Rattle.wf_yaml.specs.Rows as lines;
 ghost use Rattle.wf_yaml.specs.Blocks as blocks;
 ghost use Rattle.wf_yaml.specs.Views.{see_all, see_head, see_pair};
@@ -40,7 +40,7 @@ pub(crate) fn node(
     behind: &[Row],
 ) -> Result<Tree, YamlFault>
     requires { depth ≤ 101 }
-    ensures { Gives plain_tree result
+    ensures { ReadsAs plain_tree result
         (blocks.node_at (blocks.inside (101 - depth)) floor depth delay
         (see_head head.entry ∷ see_all behind.now)) }
 {
@@ -63,7 +63,7 @@ pub(crate) fn node(
 #[cycle(node)]
 fn block_map(alloc: Global, depth: u32, head: Head<'_>, behind: &[Row]) -> Result<Tree, YamlFault>
     requires { depth ≤ 101 }
-    ensures { Gives plain_tree result
+    ensures { ReadsAs plain_tree result
         (blocks.block_map (blocks.inside (101 - depth)) depth (see_head head.entry)
         (see_all behind.now)) }
 {
@@ -79,7 +79,7 @@ fn map_entries<'a>(
     behind: &'a [Row],
 ) -> Result<Tree, YamlFault>
     requires { depth ≤ 101 }
-    ensures { Gives plain_tree result
+    ensures { ReadsAs plain_tree result
         (blocks.map_of_entries (blocks.inside (101 - depth)) depth (see_head first.entry)
         (see_all behind.now)) }
 {
@@ -127,7 +127,7 @@ fn add_pair(
     found: Option<Fault>,
     entry: Result<(Text, Tree), YamlFault>,
 ) -> Result<Option<Fault>, OutOfMemory>
-    ensures { (read : Result (List ℕ × trees.Tree) Fault) → Gives see_pair entry read
+    ensures { (read : Result (List ℕ × trees.Tree) Fault) → ReadsAs see_pair entry read
         → IfOk result (λ f. so_far pairs.new f
         ≡ both (λ ps p. with_value p.0 p.1 ps) (so_far pairs.old found) read) }
 {
@@ -155,7 +155,7 @@ fn map_entry(
     requires deep { depth ≤ 101 }
     requires block { indent < 4294967296 }
     requires key { option_map (λ k. key_view k.now) key ≡ key_of head.text.now }
-    ensures { Gives see_pair result
+    ensures { ReadsAs see_pair result
         (blocks.map_entry (blocks.inside (101 - depth)) indent depth (keys_of keys.now)
         (see_head head.entry, see_all body.now)) }
 {
@@ -194,7 +194,7 @@ fn pair_value(
 ) -> Result<Tree, YamlFault>
     requires deep { depth ≤ 101 }
     requires block { indent < 4294967296 }
-    ensures { Gives plain_tree result
+    ensures { ReadsAs plain_tree result
         (blocks.pair_value (blocks.inside (101 - depth)) indent depth
         (scalars.is_delay_key (key_view key.now).text) number (key_view key.now).rest
         (see_all body.now)) }
@@ -213,8 +213,8 @@ fn keyed(
     key: &Key<'_>,
     tree: Result<Tree, YamlFault>,
 ) -> Result<(Text, Tree), YamlFault>
-    ensures { (read : Result trees.Tree Fault) → Gives plain_tree tree read
-        → Gives see_pair result (both (λ _ t. ((key_view key.now).text, t)) (noted fault) read) }
+    ensures { (read : Result trees.Tree Fault) → ReadsAs plain_tree tree read
+        → ReadsAs see_pair result (both (λ _ t. ((key_view key.now).text, t)) (noted fault) read) }
 {
     match noting(fault, tree) {
         Ok(tree) => Ok((key.text.copy()?, tree)),
@@ -225,7 +225,7 @@ fn keyed(
 /// A line at a map's indentation that is neither a pair nor an item.
 fn stray(alloc: Global, depth: u32, number: u32, text: &[char]) -> Result<(Text, Tree), YamlFault>
     requires { depth ≤ 102 }
-    ensures { Gives see_pair result (blocks.stray depth number text.now) }
+    ensures { ReadsAs see_pair result (blocks.stray depth number text.now) }
 {
     let fault = Fault {
         line: number,
@@ -244,7 +244,7 @@ fn stray(alloc: Global, depth: u32, number: u32, text: &[char]) -> Result<(Text,
 #[cycle(node)]
 fn block_list(alloc: Global, depth: u32, head: Head<'_>, behind: &[Row]) -> Result<Tree, YamlFault>
     requires { depth ≤ 101 }
-    ensures { Gives plain_tree result
+    ensures { ReadsAs plain_tree result
         (blocks.block_list (blocks.inside (101 - depth)) depth (see_head head.entry)
         (see_all behind.now)) }
 {
@@ -260,7 +260,7 @@ fn list_entries<'a>(
     behind: &'a [Row],
 ) -> Result<Tree, YamlFault>
     requires { depth ≤ 101 }
-    ensures { Gives plain_tree result
+    ensures { ReadsAs plain_tree result
         (blocks.list_of_entries (blocks.inside (101 - depth)) depth (see_head first.entry)
         (see_all behind.now)) }
 {
@@ -293,7 +293,7 @@ fn add_item(
     found: Option<Fault>,
     entry: Result<Tree, YamlFault>,
 ) -> Result<Option<Fault>, OutOfMemory>
-    ensures { (read : Result trees.Tree Fault) → Gives plain_tree entry read
+    ensures { (read : Result trees.Tree Fault) → ReadsAs plain_tree entry read
         → IfOk result (λ f. so_far items.new f
         ≡ both (λ ts t. ts ++ t ∷ []) (so_far items.old found) read) }
 {
@@ -318,7 +318,7 @@ fn list_entry(
 ) -> Result<Tree, YamlFault>
     requires deep { depth ≤ 101 }
     requires block { indent < 4294967296 }
-    ensures { Gives plain_tree result
+    ensures { ReadsAs plain_tree result
         (blocks.list_entry (blocks.inside (101 - depth)) indent depth
         (see_head head.entry, see_all body.now)) }
 {
@@ -359,7 +359,7 @@ fn block(
 ) -> Result<Tree, YamlFault>
     requires deep { depth ≤ 101 }
     requires block { indent < 4294967296 }
-    ensures { Gives plain_tree result
+    ensures { ReadsAs plain_tree result
         (blocks.inside (101 - depth) (indent + 1) (depth + 1) delay
         (lines.counting (see_all body.now))) }
 {

@@ -2,7 +2,7 @@
 ghost use Rattle.std.specs.Prelude.{◌≡◌, ◌≤◌, length};
 ghost use Rattle.wf_tree.specs.Plain.{plain_tree};
 ghost use Rattle.wf_yaml_line.specs.Keys.{key_of};
-ghost use Rattle.wf_yaml_line.specs.Views.{Gives, key_view};
+ghost use Rattle.wf_yaml_line.specs.Views.{ReadsAs, key_view};
 ghost use Rattle.wf_yaml.specs.Blocks as blocks;
 
 use crate::block_scalars::header_fault;
@@ -24,7 +24,7 @@ fn line_alone(
     text: &[char],
 ) -> Result<Tree, YamlFault>
     requires { depth ≤ 102 }
-    ensures { Gives plain_tree result (blocks.line_alone delay number depth text.now) }
+    ensures { ReadsAs plain_tree result (blocks.line_alone delay number depth text.now) }
 {
     if starts_scalar(text) {
         noting(header_fault(number, text), Ok(Tree::Null))
@@ -36,7 +36,7 @@ fn line_alone(
 /// What stands behind a key on its line.
 fn value_line(alloc: Global, depth: u32, number: u32, key: &Key<'_>) -> Result<Tree, YamlFault>
     requires { depth ≤ 102 }
-    ensures { Gives plain_tree result (blocks.value_line number depth (key_view key.now)) }
+    ensures { ReadsAs plain_tree result (blocks.value_line number depth (key_view key.now)) }
 {
     if ends_line(key.rest) {
         return Ok(Tree::Null);
@@ -47,7 +47,7 @@ fn value_line(alloc: Global, depth: u32, number: u32, key: &Key<'_>) -> Result<T
 
 fn key_line(alloc: Global, depth: u32, number: u32, key: &Key<'_>) -> Result<Tree, YamlFault>
     requires { depth ≤ 102 }
-    ensures { Gives plain_tree result (blocks.key_line number depth (key_view key.now)) }
+    ensures { ReadsAs plain_tree result (blocks.key_line number depth (key_view key.now)) }
 {
     let tree = value_line(alloc, depth, number, key);
     noting(key.refusal(number), tree)
@@ -55,7 +55,8 @@ fn key_line(alloc: Global, depth: u32, number: u32, key: &Key<'_>) -> Result<Tre
 
 fn other_line(alloc: Global, depth: u32, number: u32, text: &[char]) -> Result<Tree, YamlFault>
     requires { depth ≤ 102 }
-    ensures { Gives plain_tree result (blocks.other_line number depth text.now (key_of text.now)) }
+    ensures { ReadsAs plain_tree result
+        (blocks.other_line number depth text.now (key_of text.now)) }
 {
     match &read_key(alloc, text)? {
         Some(key) => key_line(alloc, depth, number, key),
@@ -66,7 +67,7 @@ fn other_line(alloc: Global, depth: u32, number: u32, text: &[char]) -> Result<T
 /// The faults of a line past the deepest nesting. Its items stand in each other, one a turn.
 pub(crate) fn deep(alloc: Global, depth: u32, number: u32, text: &[char]) -> Result<Tree, YamlFault>
     requires { depth ≤ 102 }
-    ensures { Gives plain_tree result (blocks.deep_line (length text.now) number depth text.now) }
+    ensures { ReadsAs plain_tree result (blocks.deep_line (length text.now) number depth text.now) }
 {
     let mut left = text.len();
     let mut content = text;

@@ -2,7 +2,7 @@
 ghost use Rattle.std.specs.Prelude.{◌≡◌, ◌≤◌};
 ghost use Rattle.wf_tree.specs.Plain.{plain_tree};
 ghost use Rattle.wf_yaml_line.specs.Fault.{noted};
-ghost use Rattle.wf_yaml_line.specs.Views.{Gives};
+ghost use Rattle.wf_yaml_line.specs.Views.{ReadsAs};
 ghost use Rattle.wf_yaml.specs.Rows as lines;
 ghost use Rattle.wf_yaml.specs.Blocks as blocks;
 ghost use Rattle.wf_yaml.specs.Views.{see_all};
@@ -57,7 +57,7 @@ pub(crate) fn scalar(
     behind: &[Row],
 ) -> Result<Tree, YamlFault>
     requires { depth ≤ 102 }
-    ensures { Gives plain_tree result
+    ensures { ReadsAs plain_tree result
         (blocks.scalar floor depth delay number text.now (see_all behind.now)) }
 {
     if starts_scalar(text) {

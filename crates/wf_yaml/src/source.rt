@@ -4,7 +4,7 @@ ghost use Rattle.wf_span.specs.Lefts.{view};
 ghost use Rattle.wf_tree.specs.Plain.{plain_tree};
 ghost use Rattle.wf_yaml_line.specs.Fault.{noted};
 ghost use Rattle.wf_yaml_line.specs.Marks as marks;
-ghost use Rattle.wf_yaml_line.specs.Views.{Gives};
+ghost use Rattle.wf_yaml_line.specs.Views.{ReadsAs};
 ghost use Rattle.wf_yaml.specs.Rows as lines;
 ghost use Rattle.wf_yaml.specs.Blocks as blocks;
 ghost use Rattle.wf_yaml.specs.Reading as reading;
@@ -145,7 +145,7 @@ fn no_lone_return(rows: &[Row]) -> Option<Fault>
 
 /// The node that all these lines are.
 fn content(alloc: Global, rows: &[Row]) -> Result<Tree, YamlFault>
-    ensures { Gives plain_tree result
+    ensures { ReadsAs plain_tree result
         (blocks.node 100 0 1 reading.no_delay (lines.counting (see_all rows.now))) }
 {
     match counting(rows) {
@@ -155,7 +155,7 @@ fn content(alloc: Global, rows: &[Row]) -> Result<Tree, YamlFault>
 }
 
 fn document(alloc: Global, rows: &[Row]) -> Result<Tree, YamlFault>
-    ensures { Gives plain_tree result (reading.document (see_all rows.now)) }
+    ensures { ReadsAs plain_tree result (reading.document (see_all rows.now)) }
 {
     let (front, _) = rows.split_at(mark_at(rows));
     let tree = content(alloc, front);
@@ -163,7 +163,7 @@ fn document(alloc: Global, rows: &[Row]) -> Result<Tree, YamlFault>
 }
 
 fn read_rows(alloc: Global, rows: &[Row]) -> Result<Tree, YamlFault>
-    ensures { Gives plain_tree result (reading.reading_of (see_all rows.now)) }
+    ensures { ReadsAs plain_tree result (reading.reading_of (see_all rows.now)) }
 {
     let tree = document(alloc, behind_start(counting(rows)));
     noting_after(tree, no_lone_return(rows))
@@ -172,7 +172,7 @@ fn read_rows(alloc: Global, rows: &[Row]) -> Result<Tree, YamlFault>
 /// The tree of a source, or its first fault.
 pub(crate) fn read_source(alloc: Global, src: &str) -> Result<Tree, YamlFault>
     requires { length src.now < 4294967296 }
-    ensures { Gives plain_tree result (reading.reading_of (lines.rows src.now)) }
+    ensures { ReadsAs plain_tree result (reading.reading_of (lines.rows src.now)) }
 {
     let rows = rows_of(alloc, src)?;
     read_rows(alloc, &rows)

@@ -9,6 +9,7 @@ use std::alloc::Global;
 use wf_value::OutOfMemory;
 use wf_yaml_line::{ends_line, read_key};
 
+/// Whether an item of a list begins: a `-` with a space or the line's end behind it.
 pub(crate) fn is_item(s: &[char]) -> bool
     ensures value { result ≡ starts.is_item s.now }
     ensures some { result ≡ true → 0 < length s.now }
@@ -28,6 +29,7 @@ fn starts_space(s: &[char]) -> bool
     }
 }
 
+/// Whether a tab stands first.
 pub(crate) fn starts_tab(s: &[char]) -> bool
     ensures { result ≡ lines.starts_tab s.now }
 {
@@ -47,6 +49,7 @@ pub(crate) fn starts_scalar(s: &[char]) -> bool
     }
 }
 
+/// Whether a pair of a map begins: a key with its `:`.
 pub(crate) fn is_pair(alloc: Global, s: &[char]) -> Result<bool, OutOfMemory>
     ensures { IfOk result (λ b. b ≡ is_some (key_of s.now)) }
 {

@@ -5,7 +5,7 @@ ghost use Rattle.wf_yaml_line.specs.Marks as marks;
 ghost use Rattle.wf_yaml_line.specs.Quoted as quotes;
 ghost use Rattle.wf_yaml_flow.specs.Flow as flows;
 ghost use Rattle.wf_yaml_flow.specs.Line as lines;
-ghost use Rattle.wf_yaml_line.specs.Views.{quoted_view, Gives};
+ghost use Rattle.wf_yaml_line.specs.Views.{quoted_view, ReadsAs};
 ghost use Rattle.wf_yaml_flow.specs.Views.{seen_tree};
 
 use crate::signs::{is_bracket, is_property, property_fault};
@@ -20,7 +20,7 @@ use wf_yaml_line::{
 
 /// A plain scalar, which goes to the line's end or a comment.
 fn plain_line(alloc: Global, delay: bool, line: u32, s: &[char]) -> Result<Tree, YamlFault>
-    ensures { Gives plain_tree result (lines.plain_line delay line s.now) }
+    ensures { ReadsAs plain_tree result (lines.plain_line delay line s.now) }
 {
     let (before, _) = before_comment(s);
     let content = trimmed(before);
@@ -31,7 +31,7 @@ fn plain_line(alloc: Global, delay: bool, line: u32, s: &[char]) -> Result<Tree,
 
 /// A quoted scalar, behind which nothing but a comment may stand.
 fn quoted_tree(alloc: Global, line: u32, found: &Quoted<'_>) -> Result<Tree, YamlFault>
-    ensures { Gives plain_tree result
+    ensures { ReadsAs plain_tree result
         (lines.quoted_tree line (quoted_view found.now) (quoted_view found.now).rest) }
 {
     let Some(rest) = found.rest else {
@@ -48,7 +48,7 @@ fn quoted_tree(alloc: Global, line: u32, found: &Quoted<'_>) -> Result<Tree, Yam
 fn flow_line(alloc: Global, line: u32, depth: u32, s: &[char]) -> Result<Tree, YamlFault>
     requires some { marks.starts marks.is_bracket s.now ≡ true }
     requires depth { depth ≤ 102 }
-    ensures { Gives plain_tree result (lines.flow_tree line (flows.flow line depth s.now)) }
+    ensures { ReadsAs plain_tree result (lines.flow_tree line (flows.flow line depth s.now)) }
 {
     match read_flow(alloc, line, depth, s)? {
         Seen::Goes(tree, rest) => noting_after(
@@ -61,7 +61,7 @@ fn flow_line(alloc: Global, line: u32, depth: u32, s: &[char]) -> Result<Tree, Y
 
 /// A tree, or why there is none.
 fn tree_or_fault(tree: Result<Tree, Fault>) -> Result<Tree, YamlFault>
-    ensures { Gives plain_tree result (seen_tree tree) }
+    ensures { ReadsAs plain_tree result (seen_tree tree) }
 {
     match tree {
         Ok(tree) => Ok(tree),
@@ -90,7 +90,7 @@ fn skip_word(s: &[char]) -> &[char]
 /// A node that starts with an anchor, an alias or a tag. What is lower may stand behind it.
 fn marked_tree(alloc: Global, line: u32, depth: u32, s: &[char]) -> Result<Tree, YamlFault>
     requires { depth ≤ 102 }
-    ensures { Gives plain_tree result (lines.marked_tree line depth s.now) }
+    ensures { ReadsAs plain_tree result (lines.marked_tree line depth s.now) }
 {
     let rest = skip_blanks(skip_word(s));
     let value = if is_bracket(rest) {
@@ -103,7 +103,7 @@ fn marked_tree(alloc: Global, line: u32, depth: u32, s: &[char]) -> Result<Tree,
 
 /// The tree of a text that starts with a quote.
 fn quoted_line(alloc: Global, line: u32, s: &[char]) -> Result<Tree, YamlFault>
-    ensures { Gives plain_tree result
+    ensures { ReadsAs plain_tree result
         (lines.quoted_tree line (quotes.quoted s.now) (quotes.quoted s.now).rest) }
 {
     let found = read_quoted(alloc, s)?;
@@ -122,7 +122,7 @@ pub fn one_line(
     s: &[char],
 ) -> Result<Tree, YamlFault>
     requires { depth ≤ 102 }
-    ensures { Gives plain_tree result (lines.one_line delay line depth s.now) }
+    ensures { ReadsAs plain_tree result (lines.one_line delay line depth s.now) }
 {
     if is_property(s) {
         marked_tree(alloc, line, depth, s)

@@ -37,6 +37,7 @@ fn starts_comment(s: &[char]) -> bool
     }
 }
 
+/// Whether nothing is left.
 pub(crate) fn is_empty(s: &[char]) -> bool
     ensures { result ≡ marks.is_empty s.now }
 {
@@ -46,6 +47,7 @@ pub(crate) fn is_empty(s: &[char]) -> bool
     }
 }
 
+/// Whether a `,` stands first.
 pub(crate) fn starts_comma(s: &[char]) -> bool
     ensures filled { result ≡ true → 0 < length s.now }
     ensures value { result ≡ marks.starts (λ b. b == marks.comma) s.now }
@@ -71,6 +73,7 @@ pub(crate) fn behind_colon(quoted: bool, s: &[char]) -> Option<&[char]>
     }
 }
 
+/// Whether an anchor, an alias or a tag begins.
 pub(crate) fn is_property(s: &[char]) -> bool
     ensures { result ≡ marks.starts flows.is_property s.now }
 {
@@ -138,6 +141,7 @@ pub(crate) fn ends_node(s: &[char]) -> bool
     }
 }
 
+/// Whether a collection in brackets begins.
 pub(crate) fn is_bracket(s: &[char]) -> bool
     ensures { result ≡ marks.starts marks.is_bracket s.now }
 {
@@ -147,6 +151,7 @@ pub(crate) fn is_bracket(s: &[char]) -> bool
     }
 }
 
+/// Whether a map in brackets begins.
 pub(crate) fn starts_map(s: &[char]) -> bool
     ensures { result ≡ marks.starts (λ b. b == marks.open_map) s.now }
 {

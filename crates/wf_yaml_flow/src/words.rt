@@ -6,7 +6,7 @@ ghost use Rattle.wf_tree.specs.Plain.{plain_tree};
 ghost use Rattle.wf_yaml_line.specs.declared.fault.Fault.{Fault};
 ghost use Rattle.wf_yaml_line.specs.Marks as marks;
 ghost use Rattle.wf_yaml_flow.specs.Flow as flows;
-ghost use Rattle.wf_yaml_line.specs.Views.{so_far, Gives};
+ghost use Rattle.wf_yaml_line.specs.Views.{so_far, ReadsAs};
 ghost use Rattle.wf_yaml_flow.specs.FlowWalk as walk;
 ghost use Rattle.wf_yaml_line.specs.Quoted as quotes;
 ghost use Rattle.wf_yaml_line.specs.Scalars as scalars;
@@ -218,7 +218,7 @@ pub(crate) fn has_delay(key: &Text) -> bool
 }
 
 fn plain_or_fault(read: Result<Tree, YamlFault>) -> Result<Scalar, OutOfMemory>
-    ensures { (told : Result trees.Tree Fault) → Gives plain_tree read told
+    ensures { (told : Result trees.Tree Fault) → ReadsAs plain_tree read told
         → IfOk result (λ r. so_far (plain_tree r.tree) r.fault ≡ told) }
 {
     match read {

@@ -31,9 +31,9 @@ Fails faults.OutOfMemory read = Unit {0}
 Fails (faults.Refused f) read = read ≡ Err f
 
 -- What a function returned, seen by view, is what reading gives, unless memory ran out.
-abbrev pub Gives : {X Y : Type 0} → (X → Y) → Result X YamlFault → Result Y Fault → Type 0
-Gives view (Ok x) read = read ≡ Ok (view x)
-Gives view (Err e) read = Fails e read
+abbrev pub ReadsAs : {X Y : Type 0} → (X → Y) → Result X YamlFault → Result Y Fault → Type 0
+ReadsAs view (Ok x) read = read ≡ Ok (view x)
+ReadsAs view (Err e) read = Fails e read
 
 -- what was found so far: a value, unless a fault was noted
 abbrev pub so_far : {A : Type 0} → A → Option Fault → Result A Fault

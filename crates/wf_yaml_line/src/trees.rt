@@ -5,7 +5,7 @@ ghost use Rattle.wf_tree.specs.Trees as trees;
 ghost use Rattle.wf_tree.specs.Plain.{plain_tree};
 ghost use Rattle.wf_yaml_line.specs.Fault.{Fault, noted, both, kept, refuse};
 ghost use Rattle.wf_yaml_line.specs.Scalars as scalars;
-ghost use Rattle.wf_yaml_line.specs.Views.{Gives};
+ghost use Rattle.wf_yaml_line.specs.Views.{ReadsAs};
 
 use crate::fault::{Fault, Kind, YamlFault, least};
 use crate::scalars::{Plain, is_delay, plain_kind};
@@ -26,22 +26,22 @@ pub fn text_of(alloc: Global, chars: &[char]) -> Result<Text, OutOfMemory>
 
 /// A text as a tree.
 pub fn text_tree(alloc: Global, chars: &[char]) -> Result<Tree, YamlFault>
-    ensures { Gives plain_tree result (Ok (trees.text (encode_utf8_all chars.now))) }
+    ensures { ReadsAs plain_tree result (Ok (trees.text (encode_utf8_all chars.now))) }
 {
     Ok(Tree::Text(text_of(alloc, chars)?))
 }
 
 /// No tree, but a refusal.
 pub fn refused(line: u32, kind: Kind) -> Result<Tree, YamlFault>
-    ensures { Gives plain_tree result (refuse line kind) }
+    ensures { ReadsAs plain_tree result (refuse line kind) }
 {
     Err(YamlFault::Refused(Fault { line, kind }))
 }
 
 /// A tree before which something else was noted. Of two refusals the first speaks.
 pub fn noting(fault: Option<Fault>, tree: Result<Tree, YamlFault>) -> Result<Tree, YamlFault>
-    ensures { (read : Result trees.Tree Fault) → Gives plain_tree tree read
-        → Gives plain_tree result (both (λ _ t. t) (noted fault) read) }
+    ensures { (read : Result trees.Tree Fault) → ReadsAs plain_tree tree read
+        → ReadsAs plain_tree result (both (λ _ t. t) (noted fault) read) }
 {
     match tree {
         Ok(tree) => match fault {
@@ -55,8 +55,8 @@ pub fn noting(fault: Option<Fault>, tree: Result<Tree, YamlFault>) -> Result<Tre
 
 /// A tree behind which something else was noted. Of two refusals the first speaks.
 pub fn noting_after(tree: Result<Tree, YamlFault>, fault: Option<Fault>) -> Result<Tree, YamlFault>
-    ensures { (read : Result trees.Tree Fault) → Gives plain_tree tree read
-        → Gives plain_tree result (both kept read (noted fault)) }
+    ensures { (read : Result trees.Tree Fault) → ReadsAs plain_tree tree read
+        → ReadsAs plain_tree result (both kept read (noted fault)) }
 {
     match tree {
         Ok(tree) => match fault {
@@ -73,7 +73,7 @@ pub fn noting_after(tree: Result<Tree, YamlFault>, fault: Option<Fault>) -> Resu
 
 /// The tree of a plain scalar; `delay` tells that it is the value of a key that may have a decimal.
 pub fn plain_scalar(alloc: Global, delay: bool, line: u32, s: &[char]) -> Result<Tree, YamlFault>
-    ensures { Gives plain_tree result (scalars.plain_tree delay line s.now) }
+    ensures { ReadsAs plain_tree result (scalars.plain_tree delay line s.now) }
 {
     match plain_kind(s) {
         Plain::Null => Ok(Tree::Null),

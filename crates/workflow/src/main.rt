@@ -40,7 +40,10 @@ where
     let alloc = rt.alloc();
     let words = words_of(&rt)?;
     let mut host = match journal_of(&words) {
-        Some(path) => FileHost::with_journal(alloc, rt, path).map_err(|_| NO_MEMORY)?,
+        Some(path) if goes_on(&words) => {
+            FileHost::with_journal(alloc, rt, path).map_err(|_| NO_MEMORY)?
+        }
+        Some(path) => FileHost::telling_of(alloc, rt, path).map_err(|_| NO_MEMORY)?,
         None => FileHost::in_memory(alloc, rt),
     };
     let status = match source_of(&words) {
@@ -50,12 +53,20 @@ where
         }
         None => run_line(alloc, &words, &mut FileSource::new(rt.reader()), &mut host),
     };
-    complain(&rt, &words, &status, host.is_held());
+    complain(&rt, &words, &status, host.disk_error());
     Ok(status.code())
 }
 
 /// The status where there is no memory.
 const NO_MEMORY: u8 = 14;
+
+/// Whether a line of these words may write into its journal.
+fn goes_on(words: &[String]) -> bool {
+    match words.first() {
+        Some(word) => matches!(word.as_str(), "run" | "resume"),
+        None => false,
+    }
+}
 
 /// The words behind the program's name, or the status where they can't be had.
 fn words_of(rt: &(impl Env + AllocGlobal)) -> Result<Vec<String>, u8> {

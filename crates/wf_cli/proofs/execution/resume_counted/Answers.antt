@@ -2,7 +2,7 @@ use Rattle.std.proofs.Common.{◌≡◌, ◌∙◌, ℕ, List, IsTrue, Ok, Err, 
 use Rattle.wf_cli.proofs.Causes.{resume_executes}
 use Rattle.wf_cli.proofs.Finish.{rose_from, none_fell}
 use Rattle.wf_cli.proofs.Opens.{not_of_polls, opening_by_resume, resume_uses}
-use Rattle.wf_cli.proofs.Works.{end_fault, worked_fault, worked_going, end_going, resume_taken, given_seen}
+use Rattle.wf_cli.proofs.Works.{end_fault, worked_fault, worked_going, end_going, resume_taken, given_seen, result_not_unread}
 use Rattle.wf_cli.proofs.Outsides.{some_outside}
 use Rattle.wf_cli.specs.Said.{Going, Opening, Worked}
 use Rattle.wf_engine.specs.Engine.{memory}
@@ -41,7 +41,8 @@ returns-in-Ok g c =
     (λ t i le now. g.met.H.Host.counts_now c.open.new.host t i (k.tells ∙ told) le now)
     (λ t i le now. g.met.H.Host.counts_now c.to_outcome.new.host t i (c.to_outcome.ensures.tells ∙ k.tells ∙ told) le now) (opening O told words rest is)
     (subst (λ n. Going the_language O kept.Resume (memory c.in-Ok.engine) n (opening O told words rest is).silently.done mid new c.to_outcome.result) c.waits.ensures.waits
-    (c.to_outcome.ensures.going O (k.tells ∙ told) kept.Resume (opening O told words rest is).silently.done (opening O told words rest is).opened.stands)) in
+    (c.to_outcome.ensures.going O (k.tells ∙ told) kept.Resume (opening O told words rest is).silently.done (opening O told words rest is).opened.stands))
+    (result_not_unread (g.H.Host.faults c.open.new.host) (g.H.Host.faults c.to_outcome.new.host) c.to_outcome.result c.to_outcome.ensures.says) in
     record {
       end = λ words rest reads reads2 is.
           end_going (scene words rest old) old new reads reads2 (g.H.Host.faults c.args.host.now) (g.H.Host.faults c.open.new.host) (g.H.Host.faults c.to_outcome.new.host) c.to_outcome.result c.to_outcome.ensures.says

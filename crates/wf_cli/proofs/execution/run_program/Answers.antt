@@ -3,7 +3,7 @@ use Rattle.wf_check.specs.Seen.{program_of}
 use Rattle.wf_cli.proofs.Causes.{run_executes, not_run_and_resume}
 use Rattle.wf_cli.proofs.Finish.{rose_from, none_fell}
 use Rattle.wf_cli.proofs.Opens.{run_uses}
-use Rattle.wf_cli.proofs.Works.{end_fault, worked_fault, worked_going, end_going, is_taken, given_seen}
+use Rattle.wf_cli.proofs.Works.{end_fault, worked_fault, worked_going, end_going, is_taken, given_seen, result_not_unread}
 use Rattle.wf_cli.proofs.Outsides.{some_outside}
 use Rattle.wf_cli.specs.Said.{Going, Opening, Worked}
 use Rattle.wf_engine.specs.Engine.{memory}
@@ -31,7 +31,8 @@ returns-in-Ok g c =
     (λ line. absurd (not_run_and_resume (scene words rest old) (l, is, c.requires.command) line)) refl (λ t i le now. g.met.H.Host.counts_now c.begin.new.host t i (k.tells ∙ told) le now)
     (λ t i le now. g.met.H.Host.counts_now c.to_outcome.new.host t i (c.to_outcome.ensures.tells ∙ k.tells ∙ told) le now) (opening O told words rest is first)
     (subst (λ n. Going the_language O kept.Run (memory c.in-Ok.engine) n (opening O told words rest is first).silently.done mid new c.to_outcome.result) c.waits.ensures.waits
-    (c.to_outcome.ensures.going O (k.tells ∙ told) kept.Run (opening O told words rest is first).silently.done (opening O told words rest is first).opened.stands)) in
+    (c.to_outcome.ensures.going O (k.tells ∙ told) kept.Run (opening O told words rest is first).silently.done (opening O told words rest is first).opened.stands))
+    (result_not_unread (g.H.Host.faults c.begin.new.host) (g.H.Host.faults c.to_outcome.new.host) c.to_outcome.result c.to_outcome.ensures.says) in
     record {
       end = λ words rest reads reads2 is first.
           end_going (scene words rest old) old new reads reads2 (g.H.Host.faults c.args.host.now) (g.H.Host.faults c.begin.new.host) (g.H.Host.faults c.to_outcome.new.host) c.to_outcome.result c.to_outcome.ensures.says

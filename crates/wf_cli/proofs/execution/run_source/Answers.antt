@@ -1,6 +1,6 @@
 use Rattle.std.proofs.Common.{ap, subst, sym}
 use Rattle.wf_cli.proofs.Causes.{good_argument}
-use Rattle.wf_cli.proofs.Works.{run_takes, source_end, source_worked}
+use Rattle.wf_cli.proofs.Works.{failed_worked, run_takes, source_end, source_worked}
 use Rattle.wf_engine.specs.Printed.{uses_source}
 use Rattle.wf_engine.specs.Safe.{scene}
 use Rattle.wf_host.specs.Source.{IsFirst}
@@ -8,6 +8,11 @@ use Rattle.wf_args.specs.Plain.{plain_line}
 use Rattle.wf_source.specs.Programs.{IsRefusalOf}
 use Rattle.wf_source.specs.Views.{TellsOf}
 use Rattle.wf_cli.proofs.execution.run_source.Goals as goal
+
+pub returns-in_err-bytes-clause-worked : goal.returns-in_err-bytes-clause-worked
+returns-in_err-bytes-clause-worked g c = λ O told words is.
+    let old = g.H.Host.world c.args.host.now in
+    failed_worked O (scene words (g.S.Source.left c.args.source.now) old) old c.from_residual.result c.from_residual.ensures.0 (λ i d left. g.met.H.Host.only_now c.args.host.now i d told left)
 
 pub returns-in-Ok-clause-end : goal.returns-in-Ok-clause-end
 returns-in-Ok-clause-end g c = λ words is.

@@ -32,7 +32,7 @@ returns-in-Err g c =
           (bad_line_end s old reads reads faults faults c.in-Err.fault c.bad_line.result c.bad_line.ensures (λ n why. (c.in-Err.ensures.bad_line n).1 (ap Err why)))
           (λ O told. bad_line_worked O s old c.in-Err.fault c.bad_line.result c.bad_line.ensures (λ n why. (c.in-Err.ensures.bad_line n).1 (ap Err why)) (λ i d left. g.met.H.Host.only_now c.args.host.now i d told left))
           c.tell.ensures.ends c.tell.ensures.printing refl (le_refl reads) (NoneFell-refl faults) c.tell.ensures.counts
-          (λ told t i le now. g.met.H.Host.counts_now c.args.host.now t i told le now) (λ told t i le now. g.met.H.Host.counts_now c.tell.new.host t i (c.tell.ensures.tells ∙ told) le now) c.laws_of_deeds.ensures.deed c.laws_of_deeds.ensures.end c.laws_of_sources.ensures.one_refusal c.laws_of_sources.ensures.not_both;
+          (λ told t i le now. g.met.H.Host.counts_now c.args.host.now t i told le now) (λ told t i le now. g.met.H.Host.counts_now c.tell.new.host t i (c.tell.ensures.tells ∙ told) le now) (λ told. g.met.H.Host.reads_back c.tell.new.host (c.tell.ensures.tells ∙ told)) c.laws_of_deeds.ensures.deed c.laws_of_deeds.ensures.end c.laws_of_sources.ensures.one_refusal c.laws_of_sources.ensures.not_both;
       tells = c.tell.ensures.tells;
       reads = le_refl reads;
       counts = c.tell.ensures.counts;

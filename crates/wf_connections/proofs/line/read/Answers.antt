@@ -2,7 +2,8 @@ use Rattle.std.proofs.Common.{◌∙◌, ap, subst, sym}
 use Rattle.std.specs.Prelude.{if◌then◌else◌, is_ok}
 use Rattle.wf_connections.specs.Lines.{HasRead}
 use Rattle.wf_connections.proofs.Tells.{Feeds, broken_read, bytes_read, end_read}
-use Rattle.wf_deeds.specs.Deeds.{call_of, tells}
+use Rattle.wf_deeds.specs.Deeds.{tells}
+use Rattle.wf_host.specs.World.{call_of}
 use Rattle.wf_connections.proofs.line.read.Goals as goal
 
 pub returns-in-Bytes : goal.returns-in-Bytes

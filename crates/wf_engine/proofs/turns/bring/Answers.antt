@@ -1,10 +1,11 @@
-use Rattle.std.proofs.Common.{ap, ◌∙◌, arith}
+use Rattle.std.proofs.Common.{ap, ◌∙◌, arith, sym}
 use Rattle.wf_engine.proofs.Bringing.{answer_leads}
 use Rattle.wf_engine.proofs.Chosen.{whole_after}
 use Rattle.wf_engine.proofs.turns.bring.Goals as goal
 use Rattle.wf_machine.specs.Counts.{counts}
 use Rattle.wf_machine.specs.Seen.{state_of}
 use Rattle.wf_machine.specs.declared.ApplyFault.TheVariants as fault
+use Rattle.wf_model.proofs.After.{nowhere_is_no_config}
 use Rattle.wf_model.specs.ChoiceLaws.{reading_of}
 use Rattle.wf_model.specs.Step.{next}
 use Rattle.wf_record_parts.specs.View.{reply_view}
@@ -15,7 +16,7 @@ unreachable-requires g c =
     let s = state_of c.args.machine.now in
     let t = c.args.taken in
     let (d, leads) = answer_leads s c.answers_lead.ensures c.requires.takable.active t.call c.args.reading (reply_view t.reply.value) c.requires.takable.opened c.requires.last in
-    c.in-Err-NotEnabled.ensures.not_enabled (ap Err c.in-Err-NotEnabled.field-0-is) d (ap (λ e. next s.program s.config e) c.event-event.ensures.event ∙ leads)
+    nowhere_is_no_config d (sym (c.in-Err-NotEnabled.ensures.not_enabled (ap Err c.in-Err-NotEnabled.field-0-is)) ∙ ap (λ e. next s.program s.config e) c.event-event.ensures.event ∙ leads)
 
 pub returns-in-Ok-clause-brought : goal.returns-in-Ok-clause-brought
 returns-in-Ok-clause-brought g c =

@@ -4,11 +4,14 @@ use Rattle.wf_lemmas.proofs.Results.{with_ok}
 use Rattle.wf_ast.specs.Tree.{Body}
 use Rattle.wf_eval.specs.Sight.{seen}
 use Rattle.wf_frames.specs.Fits.{reach}
-use Rattle.wf_frames.specs.Frames.{inner}
+use Rattle.wf_frames.specs.Frames.{control, inner}
 use Rattle.wf_frames.proofs.Fitting.{block_fits, entries_fits, entry_ready}
-use Rattle.wf_frames.proofs.Parts.{as_part, never_parallel, node_at}
+use Rattle.wf_frames.proofs.Parts.{as_part, node_at}
 use Rattle.wf_frames.proofs.Performed.{nothing_done, default_body, loop_body, none_left, one_left, block_put, none_assigned, first_assigned, performs_return, performs_raise}
-use Rattle.wf_frames.specs.Steps.{Performs, ReturnsValue, RaisesValue}
+use Rattle.wf_frames.proofs.Asking.{comes_so, ready_so}
+use Rattle.wf_frames.specs.Steps.{Performs, ReturnsValue, RaisesValue, forks_by}
+use Rattle.wf_frames.specs.declared.step.Leads.TheVariants as leads
+use Rattle.wf_model.specs.Move.{performs}
 use Rattle.wf_model.specs.NodeKinds.{kind_by}
 use Rattle.wf_model.specs.Shapes.{shape_by}
 use Rattle.wf_model.specs.Spots.{arms_by, entries_by, steps_by, owners_at, part_at, part_body}
@@ -123,8 +126,22 @@ enter_try-requires g c =
     let there = node_at c.args.nodes.now c.args.n x c.requires.1.1.0 c.index-nodes-n.is in
     (c.requires.1.0, (record { node = x; at = there; is = c.in-Try.is }, (c.requires.1.1.1.1.0, c.requires.1.1.1.1.1)))
 
-pub unreachable-requires : goal.unreachable-requires
-unreachable-requires g c =
+pub returns-in-Parallel-clause-performed : goal.returns-in-Parallel-clause-performed
+returns-in-Parallel-clause-performed g c =
+    let v = seen (g.K.Look.sight c.args.look.now) c.args.now in
     let x = c.index-nodes-n.result in
     let there = node_at c.args.nodes.now c.args.n x c.requires.1.1.0 c.index-nodes-n.is in
-    never_parallel c.args.nodes.now c.args.n x c.in-Parallel.field-0 c.requires.1.0.built there c.in-Parallel.is
+    let p = c.in-Parallel.field-0 in
+    let body = ap part_body (as_part g.ns c.args.nodes.now c.args.n x (kind.Parallel p) c.requires.1.0.resolves there c.in-Parallel.is) in
+    with_ok _ _ c.lead.result
+    (λ st so s l same. ap (λ b. performs s b (control g.ns (inner c.args.frames.now)) l) body
+    ∙ sym (comes_so g.ns s (control g.ns (inner c.args.frames.now)) l (leads.Forks c.args.n) st so ∙ ap (λ b. forks_by s b (control g.ns (inner c.args.frames.now)) l) body))
+    c.lead.ensures
+
+pub returns-in-Parallel-clause-ready : goal.returns-in-Parallel-clause-ready
+returns-in-Parallel-clause-ready g c =
+    let x = c.index-nodes-n.result in
+    let there = node_at c.args.nodes.now c.args.n x c.requires.1.1.0 c.index-nodes-n.is in
+    with_ok _ _ c.lead.result
+    (λ st so. ready_so g.ns c.args.nodes.now (inner c.args.frames.now) (leads.Forks c.args.n) st so (c.in-Parallel.field-0, record { node = x; at = there; is = c.in-Parallel.is }))
+    c.lead.ensures

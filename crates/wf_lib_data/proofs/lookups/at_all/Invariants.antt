@@ -2,7 +2,7 @@ use Rattle.std.proofs.Common.{◌≡◌, drop}
 use Rattle.wf_value.specs.LibData.{follow_all, texts_in}
 use Rattle.wf_value.specs.Data.{items_of}
 use Rattle.wf_value.specs.Plain.{plain, plain_items}
-use Rattle.wf_lib_data.specs.Gives.{or_null}
+use Rattle.wf_lib_data.specs.Lent.{or_null}
 use Rattle.wf_lib_data.proofs.lookups.at_all.Given as goal
 
 -- the keys that are left are followed from the value so far

@@ -46,3 +46,15 @@ returns-in-Calls-clause-moved g c =
     (λ w h s d sees reaches agrees.
     subst (λ x. IsDone g.around s (leads_to g.around.spots x s (control_of g.around c.args.frames.now) (beside d g.around c.args.frames.now c.args.scopes.now)) w (local_of g.around c.call.new.frames c.call.new.scopes)) (sym c.in-Calls.is) (h s d sees reaches agrees))
     c.call.ensures.moved
+
+pub returns-in-Forks-clause-moved : goal.returns-in-Forks-clause-moved
+returns-in-Forks-clause-moved g c =
+    with_ok _ _ c.fork.result
+    (λ w h s d sees reaches agrees.
+    subst (λ x. IsDone g.around s (leads_to g.around.spots x s (control_of g.around c.args.frames.now) (beside d g.around c.args.frames.now c.args.scopes.now)) w (local_of g.around c.fork.new.frames c.fork.new.scopes)) (sym c.in-Forks.is) (h s d sees agrees))
+    c.fork.ensures.moved
+
+pub fork-requires : goal.fork-requires
+fork-requires g c =
+    let fit = subst (AreFit c.args.nodes.now) c.in-Forks.is c.requires.1.1.1 in
+    (c.requires.0, (c.requires.1.1.0, fit))

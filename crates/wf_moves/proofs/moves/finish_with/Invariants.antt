@@ -5,3 +5,6 @@ ghost-returns g a = g.around
 
 abbrev pub ghost-call : goal.ghost-call
 ghost-call g a = g.around
+
+abbrev pub ghost-fork : goal.ghost-fork
+ghost-fork g a = g.around

@@ -61,6 +61,7 @@ returns-then-not-branch g c =
       bad_event = search rules;
       disk_fault = search rules;
       closed = search rules;
+      idle = search rules;
       deeds = search rules;
       tells = search rules;
       counts = search rules;

@@ -9,7 +9,7 @@ loop-low-preserved-in-Less c =
     let k = c.args.name.now in
     let m = c.loop-low.low + (c.loop-low.high - c.loop-low.low) / 2 in
     let lt : m < length ps = omega (arith, c.loop-low.invariant.within) in
-    let less : key_cmp (get_or ps m c.index-names-middle.result).0 k ≡ Less = ap (λ x. key_cmp x k) (sym c.as_str.ensures) ∙ sym c.order.ensures ∙ c.in-Less.is in
+    let less : key_cmp (get_or ps m c.index-names-middle.result).0 k ≡ Less = ap (λ x. key_cmp x k) (sym c.as_str.ensures) ∙ sym c.key_order.ensures ∙ c.in-Less.is in
     record {
       before = all_before k ps m c.requires lt (holds_at k (λ p. key_cmp p.0 k ≡ Less) ps m c.index-names-middle.result lt less);
       behind = c.loop-low.invariant.behind;
@@ -23,7 +23,7 @@ loop-low-preserved c =
     let k = c.args.name.now in
     let m = c.loop-low.low + (c.loop-low.high - c.loop-low.low) / 2 in
     let lt : m < length ps = omega (arith, c.loop-low.invariant.within) in
-    let greater : key_cmp (get_or ps m c.index-names-middle.result).0 k ≡ Greater = ap (λ x. key_cmp x k) (sym c.as_str.ensures) ∙ sym c.order.ensures ∙ c.in-Greater.is in
+    let greater : key_cmp (get_or ps m c.index-names-middle.result).0 k ≡ Greater = ap (λ x. key_cmp x k) (sym c.as_str.ensures) ∙ sym c.key_order.ensures ∙ c.in-Greater.is in
     record {
       before = c.loop-low.invariant.before;
       behind = all_behind k ps m c.requires lt (holds_at k (λ p. key_cmp p.0 k ≡ Greater) ps m c.index-names-middle.result lt greater);
@@ -37,7 +37,7 @@ returns-in-Equal-clause-place c =
     let k = c.args.name.now in
     let m = c.loop-low.low + (c.loop-low.high - c.loop-low.low) / 2 in
     let lt : m < length ps = omega (arith, c.loop-low.invariant.within) in
-    let same : key_cmp (get_or ps m c.index-names-middle.result).0 k ≡ Equal = ap (λ x. key_cmp x k) (sym c.as_str.ensures) ∙ sym c.order.ensures ∙ c.in-Equal.is in
+    let same : key_cmp (get_or ps m c.index-names-middle.result).0 k ≡ Equal = ap (λ x. key_cmp x k) (sym c.as_str.ensures) ∙ sym c.key_order.ensures ∙ c.in-Equal.is in
     sym (found k ps m c.requires lt (holds_at k (λ p. key_cmp p.0 k ≡ Equal) ps m c.index-names-middle.result lt same))
 
 pub returns-clause-place : goal.returns-clause-place

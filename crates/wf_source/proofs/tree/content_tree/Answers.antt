@@ -1,6 +1,6 @@
 use Rattle.std.proofs.Common.{◌≡◌, Result, Ok, IfOk, IfErr, subst, sym}
 use Rattle.wf_source.proofs.Contents.{of_text, bad}
-use Rattle.wf_source.specs.Views.{Tells}
+use Rattle.wf_source.specs.Views.{IsErrorOf}
 use Rattle.wf_status.specs.declared.Refusal.{Refusal}
 use Rattle.wf_tree.specs.Plain.{plain_tree}
 use Rattle.wf_tree.specs.Trees.{Tree}
@@ -13,8 +13,8 @@ returns-in-Ok-clause-tree c =
 
 pub returns-in-Ok-clause-fault : goal.returns-in-Ok-clause-fault
 returns-in-Ok-clause-fault c =
-    subst (λ (r : Result Tree Refusal). IfErr c.text_tree.result (Tells r))
+    subst (λ (r : Result Tree Refusal). IfErr c.text_tree.result (IsErrorOf r))
     (sym (of_text c.args.content.now c.in-Ok.text.now c.in-Ok.ensures.cases.0 c.in-Ok.ensures.cases.1)) c.text_tree.ensures.fault
 
 pub returns-in-Err-clause-fault : goal.returns-in-Err-clause-fault
-returns-in-Err-clause-fault c = subst (Tells _) (sym c.refused.ensures) (bad c.args.content.now c.in-Err.ensures.cases.0)
+returns-in-Err-clause-fault c = subst (IsErrorOf _) (sym c.refused.ensures) (bad c.args.content.now c.in-Err.ensures.cases.0)

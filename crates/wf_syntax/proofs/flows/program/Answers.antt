@@ -7,7 +7,8 @@ use Rattle.wf_syntax.proofs.Mains.{SoFar}
 use Rattle.wf_syntax.proofs.Programs.{flow_stops, main_step, mapped_end, other_step, program_is}
 use Rattle.wf_syntax.proofs.flows.program.Goals as goal
 use Rattle.wf_syntax.proofs.flows.program.Goals.{then-eq, else-eq+in-Ok-push}
-use Rattle.wf_syntax.specs.Answers.{Fails, Gives, IsOutside}
+use Rattle.wf_syntax.specs.Answers.{Fails, IsSoundAnd}
+use Rattle.wf_value.specs.Stops.{IsOutside}
 use Rattle.wf_tree.specs.Plain.{plain_tree, plain_pairs}
 use Rattle.wf_value.specs.declared.path.PathPart.TheVariants.{Key}
 
@@ -25,7 +26,7 @@ each-preserved c =
     let i = c.each.pair-index in
     let f = flow_view c.in-Ok.flow in
     let rest = map flow_view c.each.others.items in
-    let here : Gives (Flow p.0) (plain_tree p.1) (IsFlow f p.0 (plain_tree p.1)) = subst (λ k. Gives (Flow k) (plain_tree p.1) (IsFlow f k (plain_tree p.1))) c.as_str-name.ensures c.in-Ok.ensures in
+    let here : IsSoundAnd (Flow p.0) (plain_tree p.1) (IsFlow f p.0 (plain_tree p.1)) = subst (λ k. IsSoundAnd (Flow k) (plain_tree p.1) (IsFlow f k (plain_tree p.1))) c.as_str-name.ensures c.in-Ok.ensures in
     let named : bytes_eq p.0 (codes "main") ≡ c.eq.result = ap (λ k. bytes_eq k (codes "main")) (sym c.as_str-name.ensures) ∙ sym c.eq.ensures in
     elim c.if-eq.branch [
       | then-eq w ↦

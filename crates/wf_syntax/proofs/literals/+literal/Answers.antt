@@ -1,6 +1,6 @@
 use Rattle.std.proofs.Common.{rules, w64, FitsSigned, ℕ, List, ◌∙◌, sym, ap, subst, arith}
 use Rattle.std.proofs.lemmas.Int.{to_z-of_z}
-use Rattle.wf_syntax.specs.Answers.{IsOutside}
+use Rattle.wf_value.specs.Stops.{IsOutside}
 use Rattle.wf_expr.specs.Texts.{has_expressions}
 use Rattle.wf_value.specs.declared.path.PathPart.TheVariants.{Key}
 use Rattle.wf_value.specs.Plain.{plain}

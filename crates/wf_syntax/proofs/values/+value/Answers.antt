@@ -1,7 +1,7 @@
 use Rattle.std.proofs.Common.{rules, w64, FitsSigned, ℕ, List, ◌∙◌, subst, arith}
 use Rattle.std.proofs.lemmas.Int.{to_z-of_z}
 use Rattle.wf_ast.specs.View.{template_view, templates_view}
-use Rattle.wf_syntax.specs.Answers.{IsOutside}
+use Rattle.wf_value.specs.Stops.{IsOutside}
 use Rattle.wf_value.specs.declared.path.PathPart.TheVariants.{Key}
 use Rattle.wf_syntax.proofs.Valued.{null_gives, bool_gives, list_deep, map_deep, item_deep, pair_deep, list_gives, literals_give, map_gives, int_gives, values_fails, values_step, named_fails, named_step}
 use Rattle.wf_syntax.proofs.values.+value.Goals as goal

@@ -1,14 +1,16 @@
 use Rattle.std.proofs.Common.{length, ap, sym, subst, ◌∙◌}
-use Rattle.wf_ast.specs.Tree.{Body, fields}
+use Rattle.wf_ast.specs.Tree.{Body, fields, parallel}
+use Rattle.wf_ast.specs.View.{texts_view}
 use Rattle.wf_ast.specs.Flows.{flow}
 use Rattle.wf_model.specs.Kinds.{arms_now, body_kind, by_clock, call_kind, fields_now, over_now, template_now}
 use Rattle.wf_wants.proofs.Nodes.{body_so}
 use Rattle.wf_frames.proofs.Parts.{node_at}
 use Rattle.wf_frames.proofs.Performed.{default_body}
-use Rattle.wf_model.specs.NodeKinds.{kind_by, over_by}
+use Rattle.wf_model.specs.NodeKinds.{kind_by, over_by, side_by}
 use Rattle.wf_model.specs.Shapes.{fields_by, shape_by}
 use Rattle.wf_model.specs.Spots.{arms_by, entries_by, owners_at, part_body}
-use Rattle.wf_model.specs.Table.{AreBelow, ArmsStandIn, PartsStand}
+use Rattle.wf_model.specs.Table.{AreBelow, ArmsStandIn, PartsStand, work_of}
+use Rattle.wf_model.specs.declared.node.WorkNode.{WorkNode}
 use Rattle.wf_model.specs.declared.node.NodeKind.TheVariants as kind
 use Rattle.wf_wants.proofs.wants.node_kind.Goals as goal
 
@@ -94,3 +96,20 @@ returns-in-Try g c p named =
     let x = c.index-nodes-n.result in
     let there = node_at c.args.nodes.now c.args.n x c.requires.1 c.index-nodes-n.is in
     sym (body_so g.ns c.args.nodes.now c.args.n x c.requires.0.resolves there p (kind.Try c.in-Try.field-0) c.in-Try.is)
+
+pub returns-in-Branches : goal.returns-in-Branches
+returns-in-Branches g c p named =
+    let x = c.index-nodes-n.result in
+    let there = node_at c.args.nodes.now c.args.n x c.requires.1 c.index-nodes-n.is in
+    let b = c.in-Parallel.body in
+    sym (body_so g.ns c.args.nodes.now c.args.n x c.requires.0.resolves there p (kind.Parallel b) c.in-Parallel.is
+    ∙ ap (λ (w : WorkNode). body_kind p (Body.Parallel (parallel (texts_view b.shared) b.limit (work_of g.ns (side_by x.codes.items.items w))))) c.in-Branches.is)
+
+pub returns-in-Loop : goal.returns-in-Loop
+returns-in-Loop g c p named =
+    let x = c.index-nodes-n.result in
+    let there = node_at c.args.nodes.now c.args.n x c.requires.1 c.index-nodes-n.is in
+    let b = c.in-Parallel.body in
+    c.by_clock-in-Loop.ensures ∙ ap by_clock (c.is_over-in-Loop.ensures ∙ ap (λ cs. over_now (over_by cs c.in-Loop.repeated.over)) c.items-codes.ensures)
+    ∙ sym (body_so g.ns c.args.nodes.now c.args.n x c.requires.0.resolves there p (kind.Parallel b) c.in-Parallel.is
+    ∙ ap (λ (w : WorkNode). body_kind p (Body.Parallel (parallel (texts_view b.shared) b.limit (work_of g.ns (side_by x.codes.items.items w))))) c.in-Loop.is)

@@ -2,7 +2,7 @@ use Rattle.std.proofs.Common.{◌≡◌, ◌+◌, ◌-◌, [], true, false, Resu
 use Rattle.wf_tree.specs.Trees.{Tree}
 use Rattle.wf_tree.specs.Plain.{plain_tree}
 use Rattle.wf_yaml_line.specs.declared.fault.Fault.{Fault}
-use Rattle.wf_yaml_line.specs.Views.{so_far, keys_of, key_view, Gives}
+use Rattle.wf_yaml_line.specs.Views.{so_far, keys_of, key_view, ReadsAs}
 use Rattle.std.specs.Option.{option_map}
 use Rattle.wf_lemmas.proofs.Bools.{cond_false}
 use Rattle.wf_yaml.specs.Rows as lines
@@ -19,7 +19,7 @@ block-returns-in-empty t c = block_none (101 - c.args.depth) (c.args.indent + 1)
 
 pub block-returns-else-depth-gt100 : goal.block-returns-else-depth-gt100
 block-returns-else-depth-gt100 t c =
-    subst (λ (read : Result Tree Fault). Gives plain_tree c.node.result read)
+    subst (λ (read : Result Tree Fault). ReadsAs plain_tree c.node.result read)
     (block_some c.args.depth (c.args.indent + 1) c.args.delay c.counting.result.now c.row-item.result (see_head c.head_of.result) (lines.counting (see_all c.args.body.now)) c.if-depth-gt100.false c.counting.ensures c.in-len1-up.len_at_least c.row-item.is c.head_of.ensures)
     c.node.ensures
 
@@ -44,7 +44,7 @@ list_entries-items-preserved t c =
 
 pub list_entry-returns : goal.list_entry-returns
 list_entry-returns t c =
-    subst (λ (read : Result Tree Fault). Gives plain_tree c.node.result read)
+    subst (λ (read : Result Tree Fault). ReadsAs plain_tree c.node.result read)
     (item_goes_on c.args.indent c.args.depth (see_head c.args.head) c.behind_first-rest.result.now c.skip_blanks-text.result.now (see_all c.args.body.now)
     c.if-depth-gt100.false (sym c.starts_tab.ensures ∙ c.if-starts_tab.false) c.if-head-indent.false (sym c.is_item.ensures.value ∙ c.if-not-is_item.false)
     c.behind_first-rest.ensures.rest (sym c.ends_line.ensures ∙ c.if-ends_line.false) c.skip_blanks-text.ensures.rest (sym c.in_ok-is_refused.ensures ∙ c.if-is_refused.false))
@@ -74,7 +74,7 @@ map_entries-pairs-preserved t c =
 pub pair_value-returns : goal.pair_value-returns
 pair_value-returns t c =
     let delay = c.is_delay_key-delay.ensures ∙ ap is_delay_key c.as_str.ensures in
-    subst (λ (read : Result Tree Fault). Gives plain_tree c.scalar.result read)
+    subst (λ (read : Result Tree Fault). ReadsAs plain_tree c.scalar.result read)
     ((λ i. blocks.scalar (c.args.indent + 1) (c.args.depth + 1) (delay i) c.args.number (c.skip_blanks-text.ensures.rest i) (see_all c.args.body.now))
     ∙ sym (cond_false (ends_line c.args.key.now.rest.now) _ _ (sym c.ends_line.ensures ∙ c.if-ends_line.false)))
     c.scalar.ensures

@@ -3,13 +3,13 @@ use Rattle.wf_tree.specs.Trees.{Tree}
 use Rattle.wf_tree.specs.Plain.{plain_tree}
 use Rattle.wf_yaml_line.specs.declared.fault.Fault.{Fault}
 use Rattle.wf_yaml_line.specs.Marks.{ends_line}
-use Rattle.wf_yaml_line.specs.Views.{Gives}
+use Rattle.wf_yaml_line.specs.Views.{ReadsAs}
 use Rattle.wf_yaml.proofs.Steps.{deep_other, deep_end, deep_tab, deep_inner}
 use Rattle.wf_yaml.proofs.deep.deep.Goals as goal
 
 pub returns-then-not-is_item : goal.returns-then-not-is_item
 returns-then-not-is_item c =
-    subst (λ (read : Result Tree Fault). Gives plain_tree c.other_line.result read)
+    subst (λ (read : Result Tree Fault). ReadsAs plain_tree c.other_line.result read)
     (sym (deep_other c.items.left c.args.number c.args.depth c.items.content.now c.if-left-eq0.false (sym c.is_item.ensures.value ∙ c.if-not-is_item.true)) ∙ c.items.invariant)
     c.other_line.ensures
 

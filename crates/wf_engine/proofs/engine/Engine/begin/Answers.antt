@@ -3,6 +3,7 @@ use Rattle.std.specs.Prelude.{IsTrue}
 use Rattle.wf_host.proofs.Printings.{NoneFell-refl}
 use Rattle.wf_check.specs.Seen.{program_of}
 use Rattle.wf_connections.specs.Calls.{is_dropped, is_started, told}
+use Rattle.wf_engine.proofs.Done.{done_first}
 use Rattle.wf_engine.proofs.Beginning.{begins_quietly, not_refused, quiet_at_once, then_begins}
 use Rattle.wf_engine.proofs.Failing.{begin_failed, is_err}
 use Rattle.wf_engine.proofs.FreshEngine.{stands_as_fresh}
@@ -117,3 +118,7 @@ returns g c =
       tells = c.begin.ensures.tells ∙ file.tells;
       counts = search rules;
     }
+
+-- no call is done yet
+pub invariant_of-result-clause-through : goal.invariant_of-result-clause-through
+invariant_of-result-clause-through g c = λ open_now. done_first (state_of c.in_ok-machine.machine).config c.new-connections.result

@@ -9,7 +9,7 @@ pub loop-place-init : goal.loop-place-init
 loop-place-init g c =
     let e = c.args.self.now in
     let w = g.H.Host.world c.args.host.now in
-    drops_first w (g.H.Host.faults c.args.host.now) e (part_first c.laws_of_steps.ensures.moment w (g.H.Host.faults c.args.host.now) e (λ told i d left. g.met.H.Host.only_now c.args.host.now i d told left) c.requires.not_closed c.requires.kept)
+    drops_first w (g.H.Host.faults c.args.host.now) e e.done (e.through c.requires.not_closed).dropped (part_first c.laws_of_steps.ensures.moment w (g.H.Host.faults c.args.host.now) e (λ told i d left. g.met.H.Host.only_now c.args.host.now i d told left) c.requires.not_closed c.requires.kept)
 
 pub drop_one-requires : goal.drop_one-requires
 drop_one-requires g c =
@@ -48,9 +48,20 @@ pub returns : goal.returns
 returns g c =
     let e = c.args.self.now in
     let so = c.loop-place.invariant in
-    let all : c.loop-place.place ≡ length (memory e).config.calls = omega (arith, c.calls-place-end.ensures) in
+    let within = (e.through c.requires.not_closed).closed.within in
+    let all : c.loop-place.place ≡ length (memory e).config.calls = omega (arith, c.calls-place-end.ensures, within) in
+    let sent = drops_sent (g.H.Host.world c.args.host.now) (g.H.Host.world c.loop-place.host) (g.H.Host.faults c.args.host.now) (g.H.Host.faults c.loop-place.host) e c.loop-place.self c.loop-place.place so all in
     record {
-      sent = drops_sent (g.H.Host.world c.args.host.now) (g.H.Host.world c.loop-place.host) (g.H.Host.faults c.args.host.now) (g.H.Host.faults c.loop-place.host) e c.loop-place.self c.loop-place.place so all;
+      sent = record {
+        not_closed = sent.not_closed;
+        holds = sent.holds;
+        same = sent.same;
+        sends = sent.sends;
+        moments = sent.moments;
+        seen = sent.seen;
+        tells = sent.tells;
+        counts = sent.counts;
+      };
       any_moment = so.part.moments;
       drops = drops_all (g.H.Host.world c.args.host.now) (g.H.Host.world c.loop-place.host) (g.H.Host.faults c.args.host.now) (g.H.Host.faults c.loop-place.host) e c.loop-place.self c.loop-place.place so all;
       session = so.part.same.session;

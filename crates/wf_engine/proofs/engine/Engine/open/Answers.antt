@@ -2,6 +2,7 @@ use Rattle.std.proofs.Common.{rules, ◌≡◌, ◌∙◌, ◌+◌, ap, inl, inr
 use Rattle.std.specs.Prelude.{IsTrue, unwrap_or}
 use Rattle.wf_connections.specs.Calls as calls
 use Rattle.wf_connections.specs.Calls.{is_dropped, is_started}
+use Rattle.wf_engine.proofs.Done.{done_first}
 use Rattle.wf_engine.proofs.Beginning.{opens_quietly, then_reads}
 use Rattle.wf_engine.proofs.Failing.{is_err, open_failed}
 use Rattle.wf_engine.proofs.FreshEngine.{opened_as_fresh}
@@ -158,3 +159,7 @@ returns g c =
       tells = clock.tells ∙ read.tells ∙ file.tells;
       counts = search rules;
     }
+
+-- no call is done yet
+pub invariant_of-result-clause-through : goal.invariant_of-result-clause-through
+invariant_of-result-clause-through g c = λ open_now. done_first (state_of c.in_ok-machine.machine).config c.new-connections.result

@@ -1,6 +1,6 @@
 use Rattle.std.proofs.Common.{rules, ◌+◌, ◌-◌, [], Err, inl, refl, sym, ◌∙◌, ap, arith}
 use Rattle.wf_engine.proofs.Failing.{is_err, no_disk, no_poll, of_turns, of_waits, session_failed}
-use Rattle.wf_engine.proofs.Parts.{far_kept, far_moments}
+use Rattle.wf_engine.proofs.Parts.{far_kept, far_moments, more_within}
 use Rattle.wf_engine.proofs.Polling.{part_far}
 use Rattle.wf_engine.proofs.Settling.{ends, lent_active, none_fell, result_is_over, rose_later, told_on}
 use Rattle.wf_engine.proofs.Waiting.{has_ended, is_suspended, polled_first, polled_more, settled_over}
@@ -17,7 +17,7 @@ returns-in_err-settle g c =
     let e = c.in_err-settle.field-0.0 in
     session_failed g.H.Host.world g.H.Host.faults c.args.self.now c.settle.new.self c.args.host.now c.settle.new.host c.args.waits e c.from_residual.result
     (is_err c.from_residual.result e c.from_residual.ensures) c.if-self.false failed.closes (of_turns e failed.only) (λ is. first.disk_fault (c.in_err-settle.was ∙ ap Err is)) (λ is. absurd (no_poll e failed.only is))
-    (λ O open_now told. first.any_moment O told) (λ told over. (first.finished (settled_over c.args.self.now c.if-self.false over)).1) first.session first.tells first.counts
+    (λ O open_now told. more_within the_language O 0 c.args.waits (memory c.args.self.now) (g.H.Host.world c.args.host.now) (g.H.Host.world c.settle.new.host) (omega arith) (first.any_moment O told)) (λ told over. (first.finished (settled_over c.args.self.now c.if-self.false over)).1) first.session first.tells first.counts
 
 pub loop-left-init : goal.loop-left-init
 loop-left-init g c =
@@ -34,7 +34,7 @@ loop-left-init g c =
       so_far = λ O told.
           let told_mid = told_on w mid c.settle.ensures.tells told in
           polled_first O (memory e) (memory d) w mid c.args.waits
-          (part_far O e d w mid [] (λ i deeds left. g.met.H.Host.only_now c.args.host.now i deeds told left) (λ t i le now. g.met.H.Host.counts_now c.settle.new.host t i told_mid le now) (g.met.H.Host.reads_back c.settle.new.host told_mid) c.if-self.false
+          (part_far O c.args.waits 0 e d w mid [] (omega arith) (λ i deeds left. g.met.H.Host.only_now c.args.host.now i deeds told left) (λ t i le now. g.met.H.Host.counts_now c.settle.new.host t i told_mid le now) (g.met.H.Host.reads_back c.settle.new.host told_mid) c.if-self.false
           (c.requires.kept c.if-self.false told) c.in_ok-settle.ensures.«open» (c.in_ok-settle.ensures.holds told) (c.settle.ensures.any_moment O told) (c.in_ok-settle.ensures.adds O told));
       tells = c.settle.ensures.tells;
       counts = c.settle.ensures.counts;
@@ -56,7 +56,7 @@ returns-then-left-eq0 g c =
           is_suspended O (memory e) (memory d) w mid c.args.waits c.loop-left.left (so.so_far O told) (omega (arith, c.if-left-eq0.true)) so.settled
           (lent_active c.outcome.result (memory d).config.outcome c.outcome.ensures.outcome c.in-Active.is);
       result = tt;
-      any_moment = λ O open_now told. let p = so.so_far O told in far_kept the_language O (memory e) (memory d) w mid p.done p.far;
+      any_moment = λ O open_now told. let p = so.so_far O told in far_kept the_language O c.args.waits (memory e) (memory d) w mid p.done p.far;
       finished = λ told over. (so.rest over).0;
       session = so.number;
       disk_fault = λ is. absurd (cc is);
@@ -91,7 +91,7 @@ returns-in_err-wait g c =
     (is_err c.from_residual-in_err-wait.result fault c.from_residual-in_err-wait.ensures) c.if-self.false failed.closes (of_waits fault failed.only) (λ is. absurd (no_disk fault failed.only is))
     (λ is. rose_later (g.H.Host.faults c.args.host.now).poll (g.H.Host.faults c.loop-left.host).poll (g.H.Host.faults c.wait.new.host).poll so.counts.poll (wait.poll_fault (c.in_err-wait.was ∙ ap Err is)))
     (λ O open_now told.
-    let p = so.so_far O told in far_moments the_language O (memory e) (memory d) w mid (g.H.Host.world c.wait.new.host) p.done p.far so.number (wait.any_moment O (told_on w mid so.tells told)))
+    let p = so.so_far O told in far_moments the_language O c.args.waits 1 (memory e) (memory d) w mid (g.H.Host.world c.wait.new.host) p.done p.far so.number (omega (arith, p.count, c.if-left-eq0.false)) (wait.any_moment O (told_on w mid so.tells told)))
     (λ told over.
     let active = lent_active c.outcome.result (memory d).config.outcome c.outcome.ensures.outcome c.in-Active.is in
     absurd (over (sym (ap (λ (x : Config). x.outcome) (so.rest over).1) ∙ active)))
@@ -120,9 +120,9 @@ returns-in_err-settle-2 g c =
     let told_then = told_on mid then wait.tells told_mid in
     let waited = c.in_ok-wait.ensures.waits O told_mid in
     let p =
-    polled_more O e d c.wait.new.self w mid then c.args.waits c.loop-left.left (c.loop-left.left - 1) waited.done (so.so_far O told) so.number (wait.any_moment O told_mid) waited.went (omega (arith, waited.once, c.if-left-eq0.false))
+    polled_more O e d c.wait.new.self w mid then c.args.waits c.loop-left.left (c.loop-left.left - 1) 1 waited.done (so.so_far O told) so.number (omega (arith, c.if-left-eq0.false)) (wait.any_moment O told_mid) waited.went (omega (arith, waited.once, c.if-left-eq0.false))
     (λ t i le now. g.met.H.Host.counts_now c.wait.new.host t i told_then le now) (g.met.H.Host.reads_back c.wait.new.host told_then) c.in_ok-wait.ensures.«open» (c.in_ok-wait.ensures.holds told_mid) in
-    far_moments the_language O (memory e) (memory c.wait.new.self) w then (g.H.Host.world c.settle-in-loop-left.new.host) p.done p.far (wait.session ∙ so.number) (next.any_moment O told_then))
+    far_moments the_language O c.args.waits 0 (memory e) (memory c.wait.new.self) w then (g.H.Host.world c.settle-in-loop-left.new.host) p.done p.far (wait.session ∙ so.number) (omega (arith, p.count)) (next.any_moment O told_then))
     (λ told over.
     let active = lent_active c.outcome.result (memory d).config.outcome c.outcome.ensures.outcome c.in-Active.is in
     absurd (over (sym (ap (λ (x : Config). x.outcome) (so.rest over).1) ∙ active)))
@@ -157,10 +157,10 @@ loop-left-preserved g c =
           let told_then = told_on mid then c.wait.ensures.tells told_mid in
           let wait = c.in_ok-wait.ensures.waits O told_mid in
           let p =
-          polled_more O e d c.wait.new.self w mid then c.args.waits c.loop-left.left (c.loop-left.left - 1) wait.done (so.so_far O told) so.number (c.wait.ensures.any_moment O told_mid) wait.went (omega (arith, wait.once, c.if-left-eq0.false))
+          polled_more O e d c.wait.new.self w mid then c.args.waits c.loop-left.left (c.loop-left.left - 1) 1 wait.done (so.so_far O told) so.number (omega (arith, c.if-left-eq0.false)) (c.wait.ensures.any_moment O told_mid) wait.went (omega (arith, wait.once, c.if-left-eq0.false))
           (λ t i le now. g.met.H.Host.counts_now c.wait.new.host t i told_then le now) (g.met.H.Host.reads_back c.wait.new.host told_then) c.in_ok-wait.ensures.«open» (c.in_ok-wait.ensures.holds told_mid) in
           let told_new = told_on then new next.tells told_then in
-          polled_more O e c.wait.new.self c.settle-in-loop-left.new.self w then new c.args.waits (c.loop-left.left - 1) (c.loop-left.left - 1) [] p (c.wait.ensures.session ∙ so.number) (next.any_moment O told_then) (went.adds O told_then) (omega arith)
+          polled_more O e c.wait.new.self c.settle-in-loop-left.new.self w then new c.args.waits (c.loop-left.left - 1) (c.loop-left.left - 1) 0 [] p (c.wait.ensures.session ∙ so.number) (omega arith) (next.any_moment O told_then) (went.adds O told_then) (omega arith)
           (λ t i le now. g.met.H.Host.counts_now c.settle-in-loop-left.new.host t i told_new le now) (g.met.H.Host.reads_back c.settle-in-loop-left.new.host told_new) went.«open» (went.holds told_then);
       tells = next.tells ∙ c.wait.ensures.tells ∙ so.tells;
       counts = none_fell (g.H.Host.faults c.args.host.now) (g.H.Host.faults c.wait.new.host) (g.H.Host.faults c.settle-in-loop-left.new.host) (none_fell (g.H.Host.faults c.args.host.now) (g.H.Host.faults c.loop-left.host) (g.H.Host.faults c.wait.new.host) so.counts c.wait.ensures.counts) next.counts;
@@ -181,7 +181,7 @@ returns-in_default g c =
       ended = λ O told. has_ended O (memory e) (memory d) w mid c.args.waits c.loop-left.left (so.so_far O told) so.settled (result_is_over (memory d).config.outcome result);
       suspended = λ O told is. absurd (cc is);
       result = result;
-      any_moment = λ O open_now told. let p = so.so_far O told in far_kept the_language O (memory e) (memory d) w mid p.done p.far;
+      any_moment = λ O open_now told. let p = so.so_far O told in far_kept the_language O c.args.waits (memory e) (memory d) w mid p.done p.far;
       finished = λ told over. (so.rest over).0;
       session = so.number;
       disk_fault = λ is. absurd (cc is);

@@ -1,4 +1,4 @@
-use Rattle.std.proofs.Common.{[], inl, inr, ⊎_elim, refl, sym, ◌∙◌, subst}
+use Rattle.std.proofs.Common.{[], arith, inl, inr, ⊎_elim, refl, sym, ◌∙◌, subst}
 use Rattle.wf_host.proofs.Printings.{NoneFell-refl}
 use Rattle.wf_lemmas.proofs.Results.{passed_on}
 use Rattle.wf_deeds.specs.Memory.{IsSettled}
@@ -15,7 +15,7 @@ loop-self-init g c = record {
   holds = λ told. c.requires.kept told;
   number = refl;
   waits = refl;
-  so_far = λ O told. far_at_first the_language O c.args.self.now.history (g.H.Host.world c.args.host.now) (memory c.args.self.now) (λ i d left. g.met.H.Host.only_now c.args.host.now i d told left) (c.requires.kept told).0
+  so_far = λ O told. far_at_first the_language O 0 c.args.self.now.history (g.H.Host.world c.args.host.now) (memory c.args.self.now) (λ i d left. g.met.H.Host.only_now c.args.host.now i d told left) (c.requires.kept told).0
       (c.args.self.now.ready c.requires.«open»).begun;
   tells = refl;
   counts = NoneFell-refl (g.H.Host.faults c.args.host.now);
@@ -48,7 +48,7 @@ loop-self-preserved g c =
       so_far = λ O told.
           let told1 = told_on w mid so.tells told in
           let told2 = told_on mid new c.turn.ensures.tells told1 in
-          far_on the_language O (memory c.args.self.now) (memory c.loop-self.self) (memory c.turn.new.self) w mid new [] [] (so.so_far O told) so.number (c.turn.ensures.any_moment O so.not_closed told1) (c.in_ok-turn.ensures.adds O told1).went
+          far_on the_language O 0 0 (memory c.args.self.now) (memory c.loop-self.self) (memory c.turn.new.self) w mid new [] [] (so.so_far O told) so.number (omega arith) (c.turn.ensures.any_moment O so.not_closed told1) (c.in_ok-turn.ensures.adds O told1).went
           c.turn.new.self.history (λ t i le now. g.met.H.Host.counts_now c.turn.new.host t i told2 le now) (g.met.H.Host.reads_back c.turn.new.host told2) (c.turn.ensures.holds c.in_ok-turn.ensures.«open» told1).0
           (c.turn.new.self.ready c.in_ok-turn.ensures.«open»).begun;
       tells = c.turn.ensures.tells ∙ so.tells;
@@ -62,7 +62,7 @@ returns-in_err-turn-clause-any_moment g c = λ O told.
     let w = g.H.Host.world c.args.host.now in
     let mid = g.H.Host.world c.loop-self.host in
     let so = c.loop-self.invariant in
-    far_moments the_language O (memory c.args.self.now) (memory c.loop-self.self) w mid (g.H.Host.world c.turn.new.host) [] (so.so_far O told) so.number (c.turn.ensures.any_moment O so.not_closed (told_on w mid so.tells told))
+    far_moments the_language O 0 0 (memory c.args.self.now) (memory c.loop-self.self) w mid (g.H.Host.world c.turn.new.host) [] (so.so_far O told) so.number (omega arith) (c.turn.ensures.any_moment O so.not_closed (told_on w mid so.tells told))
 
 pub returns-in_err-turn-clause-finished : goal.returns-in_err-turn-clause-finished
 returns-in_err-turn-clause-finished g c = λ settled.
@@ -93,9 +93,9 @@ returns g c =
     let so = c.loop-self.invariant in
     record {
       holds = λ told. so.holds told;
-      adds = λ O told. far_went the_language O (memory c.args.self.now) (memory c.loop-self.self) (g.H.Host.world c.args.host.now) (g.H.Host.world c.loop-self.host) [] (so.so_far O told);
+      adds = λ O told. far_went the_language O 0 (memory c.args.self.now) (memory c.loop-self.self) (g.H.Host.world c.args.host.now) (g.H.Host.world c.loop-self.host) [] (so.so_far O told);
       settled = is_settled_now c.loop-self.self c.is_settled.result so.not_closed c.is_settled.ensures.settled c.loop-self-test.false;
-      any_moment = λ O told. far_kept the_language O (memory c.args.self.now) (memory c.loop-self.self) (g.H.Host.world c.args.host.now) (g.H.Host.world c.loop-self.host) [] (so.so_far O told);
+      any_moment = λ O told. far_kept the_language O 0 (memory c.args.self.now) (memory c.loop-self.self) (g.H.Host.world c.args.host.now) (g.H.Host.world c.loop-self.host) [] (so.so_far O told);
       finished = λ settled. first_of so.rest (λ was. was settled);
       session = so.number;
       waits = so.waits;

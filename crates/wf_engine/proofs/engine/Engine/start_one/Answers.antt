@@ -2,6 +2,7 @@ use Rattle.std.proofs.Common.{◌≡◌, false, true, [], ◌∷◌, refl, sym, 
 use Rattle.wf_deeds.specs.Clauses.{those}
 use Rattle.wf_engine.proofs.Connected.{are_of_starts, behind, lent_request, starts_goes, starts_one, starts_same, starts_this, still_ready}
 use Rattle.wf_engine.proofs.CallsSent.{holds_later, part_none, sends_start, starts_no_old, starts_no_shut, starts_none, told_then}
+use Rattle.wf_engine.proofs.Done.{done_started}
 use Rattle.wf_engine.proofs.Sent.{kept_before, kept_with, kept_without, starting, starting_goes}
 use Rattle.wf_engine.proofs.SentLists.{not_this}
 use Rattle.wf_engine.proofs.engine.Engine.start_one.Goals as goal
@@ -142,4 +143,5 @@ invariant_of-self-2 g c =
       ready = λ open_now.
           still_ready e.history e.machine e.reading e.connections c.start-2.new.self e.taken was
           (are_of_starts (memory e).config e.connections c.start-2.new.self c.args.call was.calls _ (sym c.in-Some.ensures) c.in_ok-start-2.ensures);
+      through = λ open_now. done_started (memory e).config e.connections c.start-2.new.self e.done c.args.call _ (sym c.in-Some.ensures) c.in_ok-start-2.ensures (e.through c.requires.not_closed);
     }

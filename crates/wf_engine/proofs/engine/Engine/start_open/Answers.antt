@@ -1,4 +1,4 @@
-use Rattle.std.proofs.Common.{◌≡◌, [], refl, sym, ◌∙◌, ap, arith, length}
+use Rattle.std.proofs.Common.{◌≡◌, ◌&&◌, not, [], refl, sym, ◌∙◌, ap, arith, length}
 use Rattle.wf_deeds.specs.Clauses.{those}
 use Rattle.wf_engine.proofs.CallsSent.{starts_all, starts_first, starts_on, starts_sent, falls_then, moments_then, part_first, settled_on, told_then}
 use Rattle.wf_engine.proofs.engine.Engine.start_open.Goals as goal
@@ -10,7 +10,7 @@ pub loop-place-init : goal.loop-place-init
 loop-place-init g c =
     let e = c.args.self.now in
     let w = g.H.Host.world c.args.host.now in
-    starts_first w (g.H.Host.faults c.args.host.now) e (part_first c.laws_of_steps.ensures.moment w (g.H.Host.faults c.args.host.now) e (λ told i d left. g.met.H.Host.only_now c.args.host.now i d told left) c.requires.not_closed c.requires.kept)
+    starts_first w (g.H.Host.faults c.args.host.now) e e.done (λ k le. ap (λ b. b && not ((memory e).started k)) ((e.through c.requires.not_closed).closed.shut k le)) (part_first c.laws_of_steps.ensures.moment w (g.H.Host.faults c.args.host.now) e (λ told i d left. g.met.H.Host.only_now c.args.host.now i d told left) c.requires.not_closed c.requires.kept)
 
 pub start_one-requires : goal.start_one-requires
 start_one-requires g c =
@@ -50,7 +50,8 @@ pub returns : goal.returns
 returns g c =
     let e = c.args.self.now in
     let so = c.loop-place.invariant in
-    let all : c.loop-place.place ≡ length (memory e).config.calls = omega (arith, c.calls-place-end.ensures) in
+    let within = (e.through c.requires.not_closed).closed.within in
+    let all : c.loop-place.place ≡ length (memory e).config.calls = omega (arith, c.calls-place-end.ensures, within) in
     record {
       sent = starts_sent (g.H.Host.world c.args.host.now) (g.H.Host.world c.loop-place.host) (g.H.Host.faults c.args.host.now) (g.H.Host.faults c.loop-place.host) e c.loop-place.self c.loop-place.place so all;
       any_moment = so.part.moments;

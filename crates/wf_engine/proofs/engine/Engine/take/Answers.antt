@@ -1,6 +1,7 @@
 use Rattle.std.proofs.Common.{rules, ◌≡◌, suc, ◌+◌, max, arith, refl}
 use Rattle.wf_connections.specs.Calls.{is_dropped, is_started, told}
-use Rattle.wf_deeds.specs.Deeds.{call_of}
+use Rattle.wf_host.specs.World.{call_of}
+use Rattle.wf_engine.proofs.Done.{done_heard}
 use Rattle.wf_engine.proofs.Heard.{heard_ready, takable, takes}
 use Rattle.wf_engine.proofs.engine.Engine.take.Goals as goal
 use Rattle.wf_engine.specs.Engine.{memory}
@@ -39,4 +40,5 @@ invariant_of-self-2 c =
       ready = λ open_now.
           heard_ready e.history e.machine e.reading c.max-self.result e.connections b e.taken c.in_ok-self.field-0 (e.ready c.if-self.false) (omega (arith, c.max-self.ensures)) c.in_ok-hear.ensures.stands
           (takable (record (memory e) { started = is_started b; dropped = is_dropped b; told = told b }) (call_of c.args.heard.what) c.in_ok-self.field-0 (c.requires.active c.if-self.false) c.in_ok-self.ensures);
+      through = λ open_now. done_heard (memory e).config e.connections b e.done c.in_ok-hear.ensures.stands (e.through c.if-self.false);
     }

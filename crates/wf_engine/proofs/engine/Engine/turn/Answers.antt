@@ -3,6 +3,7 @@ use Rattle.std.proofs.lemmas.List.{nil_from_length}
 use Rattle.std.specs.Prelude.{Option}
 use Rattle.wf_deeds.specs.Turns.{turn_of}
 use Rattle.wf_engine.proofs.Added.{Choice, Laws, is_short, is_spelled, not_none}
+use Rattle.wf_engine.proofs.Done.{done_behind}
 use Rattle.wf_engine.proofs.OneTurn.{turn_adds, turn_begun}
 use Rattle.wf_engine.proofs.FreshEngine.{nothing_taken}
 use Rattle.wf_engine.proofs.TurnsAdded.{added, goes_on, idle, still_of}
@@ -183,4 +184,8 @@ invariant_of-self-2 g c = record {
         calls = still_of c.laws_of_calls.ensures.calls_go_on c.args.self.now.connections old.program old.config now.config (events_view c.in_ok-events.events) was.calls c.in_ok-events.ensures.leads;
         takable = nothing_taken now.config c.take-taken.new.self c.take-taken.ensures.after;
       };
+  through = λ open_now.
+      let old = state_of c.args.self.now.machine in
+      let now = state_of c.choose_turn.new.machine in
+      done_behind c.args.self.now.connections c.args.self.now.done old.program old.config now.config (events_view c.in_ok-events.events) (c.args.self.now.through c.if-self.false) c.in_ok-events.ensures.leads;
 }

@@ -1,6 +1,5 @@
-use Rattle.std.proofs.Common.{◌∙◌, arith}
+use Rattle.std.proofs.Common.{arith}
 use Rattle.wf_http_in.proofs.Codes.{three_digits}
-use Rattle.wf_http_in.proofs.Names.{are_texts}
 use Rattle.wf_http_in.proofs.head.Head.new.Goals as goal
 
 pub invariant_of-result : goal.invariant_of-result
@@ -8,4 +7,4 @@ invariant_of-result c =
     let head = c.requires.head in
     let most = three_digits head.0 head.1.reads.0 in
     let code = head.1.code in
-    (are_texts head.0.fields _ head.1.reads.0.fields (c.in_ok-fields.ensures ∙ head.1.fields), omega arith)
+    omega arith

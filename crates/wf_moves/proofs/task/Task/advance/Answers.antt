@@ -10,7 +10,7 @@ use Rattle.wf_moves.specs.declared.task.Task.{Task}
 use Rattle.wf_moves.specs.Moved.{IsMove, IsWent}
 use Rattle.wf_moves.specs.Stepped.{stepped, stepped_at}
 use Rattle.wf_moves.specs.Tasks.{IsAwaited, IsAwaitedLeft, IsDone, IsLeftSo, MovesSo}
-use Rattle.wf_moves.specs.Waits.{GoesFrom, task_local, wait_view}
+use Rattle.wf_moves.specs.Waits.{GoesFrom, task_local, waiting}
 use Rattle.wf_moves.proofs.task.Task.advance.Goals as goal
 
 pub advance-requires : goal.advance-requires
@@ -26,7 +26,7 @@ returns-in-Goes-clause-moved g c s sees reaches agrees =
     let mid = c.advance.new.frames in
     let awake = c.requires.1.1.1.1 in
     let m = stepped s (local_of g.around old c.args.scopes.now) in
-    subst (λ l. IsWent (stepped s l) (record (local_of g.around mid c.advance.new.scopes) { wait = wait_view g.around w })) (sym (awake_local g.around w old c.args.scopes.now awake))
+    subst (λ l. IsWent (stepped s l) (waiting g.around w (local_of g.around mid c.advance.new.scopes))) (sym (awake_local g.around w old c.args.scopes.now awake))
     (subst (IsWent m) (sym (awake_local g.around w mid c.advance.new.scopes awake)) (goes_leads g.around s m (local_of g.around mid c.advance.new.scopes)
     (subst (λ x. IsDone g.around s (stepped_at s (control_of g.around old) (local_of g.around old c.args.scopes.now)) x (local_of g.around mid c.advance.new.scopes)) c.in-Goes.is (c.in_ok-done.ensures.moved s (control_of g.around old) sees reaches agrees))))
 

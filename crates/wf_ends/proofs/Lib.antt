@@ -1,0 +1,2 @@
+mod Pauses
+mod Finishes

@@ -1,0 +1,4 @@
+mod Urls
+mod Codes
+mod Reading
+mod Whole

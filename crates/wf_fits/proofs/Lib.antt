@@ -1,0 +1,14 @@
+pub mod Nesting
+pub mod Kept
+pub mod Outside
+pub mod Values
+pub mod Holding
+pub mod Totals
+pub mod Lifting
+pub mod Deep
+pub mod Homes
+pub mod Bent
+pub mod Tested
+pub mod TestedTasks
+pub mod TestedValues
+pub mod TestedParts

@@ -1,0 +1,4 @@
+pub mod Several
+pub mod Merges
+pub mod Here
+pub mod Standing
