@@ -19,5 +19,6 @@ pub mod Turning
 pub mod Unwinding
 pub mod Waiting
 mod Splitting
-mod Agreeing
-mod Openings
+pub mod Agreeing
+pub mod Failing
+pub mod Openings

@@ -1,9 +1,10 @@
 -- Where the next branch begins.
-use Rattle.std.proofs.Common.{◌≡◌, ℕ, ◌<◌, true, List, [], ◌∷◌, length, get_or, Some, None, refl, sym, ap, subst, ◌∙◌, arith}
+use Rattle.std.proofs.Common.{◌≡◌, ℕ, ◌<◌, ◌≤◌, true, List, [], ◌∷◌, length, get_or, Some, None, refl, sym, ap, subst, ◌∙◌, arith}
 use Rattle.std.proofs.lemmas.Bool.{and_parts}
+use Rattle.std.proofs.lemmas.Option.{slice_get_within}
 use Rattle.std.specs.List.{list_all}
 use Rattle.std.specs.Global.{Global}
-use Rattle.std.specs.Prelude.{IfOk, Ok, Err, Option, Result, Vec, not, pos, slice_get, zero, suc}
+use Rattle.std.specs.Prelude.{IfOk, Ok, Err, Option, Result, Vec, decimal, not, pos, slice_get, zero, suc}
 use Rattle.wf_ast.specs.Tree.{LoopBody, Over, branch, loop, OfLoop, parallel, Steps}
 use Rattle.wf_ast.specs.View.{texts_view}
 use Rattle.wf_frames.proofs.Parts.{as_part, list_of, parallel_built, view_is}
@@ -14,7 +15,7 @@ use Rattle.wf_frames.specs.Turns.{names_of}
 use Rattle.wf_frames.specs.declared.forking.Work.{Work}
 use Rattle.wf_frames.specs.declared.forking.Work.TheVariants as work
 use Rattle.wf_model.specs.Config.{BranchesLeft, Left, ValuesLeft, is_empty, next_of}
-use Rattle.wf_model.specs.Move.{loop_names}
+use Rattle.wf_model.specs.Move.{branch_name, loop_names, name_of}
 use Rattle.wf_model.specs.NodeKinds as kinds
 use Rattle.wf_model.specs.NodeKinds.{block_view, kind_by, loop_by, over_by, side_by}
 use Rattle.wf_model.specs.Spots.{Spot, branches_by, owners_at, part_at, part_body, part_branch, part_list, steps_by}
@@ -81,11 +82,30 @@ left_within ns [] (suc n) h = absurd (cc h)
 left_within ns (x ∷ xs) zero h = omega arith
 left_within ns (x ∷ xs) (suc n) h = let lt = left_within ns xs n h in omega (arith, lt)
 
+branch_named : (ns : List Spot) (xs : List ℕ) (i : ℕ) → i < length xs → branch_name (branches_by ns xs) i ≡ (part_branch (part_at ns (get_or xs i 0))).0
+branch_named ns [] i lt = absurd (omega (arith, lt))
+branch_named ns (x ∷ xs) zero lt = refl
+branch_named ns (x ∷ xs) (suc i) lt = branch_named ns xs i (omega (arith, lt))
+
+no_branch_named : (ns : List Spot) (xs : List ℕ) (i : ℕ) → length xs ≤ i → branch_name (branches_by ns xs) i ≡ []
+no_branch_named ns [] i le = refl
+no_branch_named ns (x ∷ xs) zero le = absurd (omega (arith, le))
+no_branch_named ns (x ∷ xs) (suc i) le = no_branch_named ns xs i (omega (arith, le))
+
 module _ (ns : List Spot) (nodes : List Node) (n : ℕ) (p : ParallelNode) (v : Vec ℕ Global) (tells : IsTableOf ns nodes) (h : IsParallel nodes n p) (is : p.work ≡ node_work.Branches v) where
   pub branches_are : branches_of (parallel_at ns n) ≡ branches_by ns v.items
   branches_are =
       ap (λ q. branches_of (body_parallel (part_body q))) (as_part ns nodes n h.node (kind.Parallel p) tells.resolves h.at h.is)
       ∙ ap (λ (w : WorkNode). branches_of (parallel (texts_view p.shared) p.limit (work_of ns (side_by h.node.codes.items.items w)))) is
+
+  names_are : (i : ℕ) → name_of (parallel_at ns n) i ≡ branch_name (branches_by ns v.items) i
+  names_are i =
+      ap (λ q. name_of (body_parallel (part_body q)) i) (as_part ns nodes n h.node (kind.Parallel p) tells.resolves h.at h.is)
+      ∙ ap (λ (w : WorkNode). name_of (parallel (texts_view p.shared) p.limit (work_of ns (side_by h.node.codes.items.items w))) i) is
+
+  -- a number past the last branch has the empty name
+  pub no_title : (i : ℕ) → length v.items ≤ i → name_of (parallel_at ns n) i ≡ []
+  no_title i le = names_are i ∙ no_branch_named ns v.items i le
 
   branch_within : (next : ℕ) → not (is_empty (BranchesLeft (branches_from next (branches_of (parallel_at ns n))))) ≡ true → next < length v.items
   branch_within next left = left_within ns v.items next (subst (λ bs. not (is_empty (BranchesLeft (branches_from next bs))) ≡ true) branches_are left)
@@ -158,6 +178,18 @@ module _ (ns : List Spot) (nodes : List Node) (n : ℕ) (p : ParallelNode) (v : 
       let e = as_part ns nodes Number its_branch.node (kind.Branch its_branch.block) tells.resolves its_branch.at its_branch.is in
       ap (λ q. (part_branch q).1) e ∙ sym (ap part_list e)
 
+  pub number_within : Number < length nodes
+  number_within = slice_get_within nodes Number its_branch.node its_branch.at
+
+  -- its name is that of its node
+  pub branch_title : (x : Node) → slice_get nodes Number ≡ Some x → name_of (parallel_at ns n) next ≡ x.name
+  branch_title x at =
+      let e : its_branch.node ≡ x = cc (sym its_branch.at ∙ at) in
+      names_are ns nodes n p v tells h is next
+      ∙ branch_named ns v.items next within
+      ∙ ap (λ q. (part_branch q).0) (as_part ns nodes Number its_branch.node (kind.Branch its_branch.block) tells.resolves its_branch.at its_branch.is)
+      ∙ ap (λ (y : Node). y.name) e
+
   -- the next one is this
   abbrev pub NextBranch : First
   NextBranch = record { steps = part_list (part_at ns Number); names = []; left = BranchesLeft (branches_from (suc next) (branches_of (parallel_at ns n))) }
@@ -187,6 +219,10 @@ module _ (ns : List Spot) (nodes : List Node) (n : ℕ) (p : ParallelNode) (l : 
 
   abbrev Loop : LoopBody
   Loop = loop_of ns (loop_by h.node.codes.items.items l)
+
+  -- it has a number for its name
+  pub turn_title : (i : ℕ) → name_of (parallel_at ns n) i ≡ decimal i
+  turn_title i = ap (λ q. name_of (body_parallel (part_body q)) i) part_here
 
   -- the next iteration is this
   abbrev pub NextTurn : Data → ℕ → Left → First

@@ -68,13 +68,13 @@ went_left nodes t e h = (free_awake t.wait e, subst (λ x. GoesFrom nodes x t.fr
 pub awake_local : (a : Around) (w : Wait) (fs : Frames) (x : Scopes) → is_awake_in w ≡ true → waiting a w (local_of a fs x) ≡ local_of a fs x
 awake_local a w fs x e = ap (λ v. waiting a v (local_of a fs x)) (is_awake w e)
 
--- a task that stands in a parallel step, but for its control
-pub joining_local : (a : Around) (w : Wait) (fs : Frames) (x : Scopes) → is_joining w ≡ true → (c : List Item) × (waiting a w (local_of a fs x) ≡ beside c a fs x)
+-- a task that stands in a parallel step, at any control
+pub joining_local : (a : Around) (w : Wait) (fs : Frames) (x : Scopes) → is_joining w ≡ true → (c : List Item) → record (waiting a w (local_of a fs x)) { control = c } ≡ beside c a fs x
 joining_local a wait.Awake fs x e = absurd (cc e)
 joining_local a (wait.Sleep d n) fs x e = absurd (cc e)
 joining_local a (wait.Delay d) fs x e = absurd (cc e)
-joining_local a (wait.Calling c n) fs x e = absurd (cc e)
-joining_local a (wait.Joining j) fs x e = (control_in a.spots (wait.Joining j) (control_of a fs), refl)
+joining_local a (wait.Calling k n) fs x e = absurd (cc e)
+joining_local a (wait.Joining j) fs x e = λ c. refl
 
 -- what it has logged, and then a move
 pub logged_local : (a : Around) (s : Scene) (w : Wait) (fs : Frames) (x : Scopes) (n : Moved) (e : Logged) (v : Went) → is_awake_in w ≡ true → IsLogged s n e v (local_of a fs x) → IsLogged s n e v (waiting a w (local_of a fs x))

@@ -2,6 +2,7 @@
 --     First, first_of    the next branch: its steps, the names that it binds, and what is left behind it
 --     BeginsAsStepsDo    so does the definition of steps
 --     joins_with         how a task goes on behind a parallel step
+--     error_by           with which error, where its branches have kept some
 --     JoinsAsStepsDo     so does the definition of steps
 use Rattle.std.specs.Global.{Global}
 use Rattle.std.specs.Prelude.{◌≡◌, ◌≤◌, ℕ, ◌+◌, Bool, true, false, not, List, [], ◌∷◌, Some, None, Ok, Err, Box, Option}
@@ -74,6 +75,11 @@ joins_with s (Some e) k l = raises s k l e
 abbrev pub error_in : ParallelBody → List (ℕ × Data) → Option Data
 error_in body [] = None
 error_in body (e ∷ es) = Some (join_error body (e ∷ es))
+
+-- that of a task that stands so, with these errors of its branches
+abbrev pub error_by : List Spot → Wait → List (ℕ × Data) → Data
+error_by ns (wait.Joining j) es = join_error (parallel_at ns j.value.node) es
+error_by ns w es = join_error (parallel_at ns 0) es
 
 abbrev pub JoinsAsStepsDo : Type 0
 JoinsAsStepsDo = (s : Scene) (body : ParallelBody) (es : List (ℕ × Data)) (k : List Item) (l : Local) → joins s body es k l ≡ joins_with s (error_in body es) k l

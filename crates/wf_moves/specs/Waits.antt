@@ -102,6 +102,10 @@ waiting a w l = record l { control = control_in a.spots w l.control; wait = wait
 abbrev pub task_local : Around → Task → Scopes → Local
 task_local a t x = waiting a t.wait (local_of a t.frames x)
 
+-- at another control
+abbrev pub standing_at : Around → Task → Scopes → List model.Item → Local
+standing_at a t x k = record (task_local a t x) { control = k }
+
 -- an answer's value, or the error that it raises
 abbrev pub answer_view : Result Value Value → Result Data Data
 answer_view (Ok v) = Ok (plain v)

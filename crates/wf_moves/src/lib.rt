@@ -8,6 +8,7 @@
 mod assign;
 mod back;
 mod branch;
+mod branch_errors;
 mod call;
 mod finish;
 mod forking;

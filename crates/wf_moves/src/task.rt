@@ -1,5 +1,5 @@
 // Tasks.
-ghost use Rattle.std.specs.Prelude.{◌≡◌, ◌≤◌, IfErr, IfOk, IfSome, OnOk, Some, false, is_some, option_map, true};
+ghost use Rattle.std.specs.Prelude.{◌≡◌, ◌≤◌, IfErr, IfOk, IfSome, List, OnOk, Some, false, is_some, option_map, true};
 ghost use Rattle.wf_frames.specs.Fits.{Fits};
 ghost use Rattle.wf_frames.specs.Foreseen.{Foresees};
 ghost use Rattle.wf_frames.specs.Frames.{inner};
@@ -90,7 +90,8 @@ impl Task {
     ghost use Rattle.wf_moves.specs.Requests.{Reaches};
     ghost use Rattle.wf_moves.specs.Stepped.{stepped};
     ghost use Rattle.wf_moves.specs.Tasks.{IsAwaited, IsAwaitedLeft, IsBehind, IsFirst, IsFlow, MovesSo, Stays, StaysBehind, first, has_ended, is_sent};
-    ghost use Rattle.wf_moves.specs.Waits.{CanGoOn, answer_view, call_in, is_awake_in, is_call_at, is_joining, moment_in, result_in, task_local};
+    ghost use Rattle.wf_moves.specs.Waits.{CanGoOn, answer_view, call_in, is_awake_in, is_call_at, is_joining, moment_in, result_in, standing_at, task_local};
+    ghost use Rattle.wf_model.specs.Config.{Item};
     ghost use Rattle.wf_moves.specs.Branches.{joins_with};
 
     /// The first task, awake, which stands before the steps of a workflow: that of the node with this number. Its first layer is made, and holds
@@ -310,8 +311,9 @@ impl Task {
         }
     }
 
-    /// It goes on behind the parallel step in which it stands, whose branches have all ended, or with the error that they have left. Without
-    /// memory the task and the layers are left in any state, and are only to be let go.
+    /// It goes on behind the parallel step in which it stands, whose branches have all ended, or with the error that they have left. Which
+    /// errors they have left the table tells, so it does so whatever its control says of them. Without memory the task and the layers are
+    /// left in any state, and are only to be let go.
     pub fn join(
         &mut self,
         nodes: &[Node],
@@ -326,9 +328,9 @@ impl Task {
         requires stands { Stands around nodes.now self.old.frames scopes.old }
         requires joins { is_joining self.old.wait ≡ true }
         requires shallow { IfSome error (λ e. depth (plain e) ≤ 100) }
-        ensures moved { IfOk result (λ m. (s : Scene) → Sees s facts.entry.now → Agrees s around
-            → MovesSo (joins_with s (option_map plain error)
-            (control_of around self.old.frames) (task_local around self.old scopes.old)) m
+        ensures moved { IfOk result (λ m. (s : Scene) (k : List Item) → Sees s facts.entry.now
+            → Agrees s around → MovesSo (joins_with s (option_map plain error)
+            (control_of around self.old.frames) (standing_at around self.old scopes.old k)) m
             (task_local around self.new scopes.new)) }
         ensures stands { OnOk result (Stands around nodes.now self.new.frames scopes.new) }
         ensures left { IfOk result (λ m. Stays nodes.now m self.new) }

@@ -47,7 +47,7 @@ some_own first (frame.Judge judging ∷ fs) = tt
 abbrev outer_by : Outer → List Outer → Config → Option model.Task → Config
 outer_by o os c q = elim q [ None ↦ put_outer os c | Some t ↦ put_outer os (with_task o.task (record t { layers = layer_at o.above o.layer t.layers }) c) ]
 
-outer_only : (os : List Outer) (c : Config) → put_outer os c ≡ record c { tasks = (put_outer os c).tasks }
+pub outer_only : (os : List Outer) (c : Config) → put_outer os c ≡ record c { tasks = (put_outer os c).tasks }
 outer_only [] c = refl
 outer_only (o ∷ os) c = by (task c o.task) (λ d. outer_only os d)
   where

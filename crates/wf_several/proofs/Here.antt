@@ -27,7 +27,7 @@ same_task : (t u : Task) → Some t ≡ Some u → t ≡ u
 same_task t u h = cc h
 
 -- numbers rise, so what stands at a place is the first
-place_of : (from below : ℕ) (es : List (ℕ × Status)) (i b : ℕ) (s : Status) → rise from below es ≡ true → slice_get es i ≡ Some (b, s) → IsPlace b i es
+pub place_of : (from below : ℕ) (es : List (ℕ × Status)) (i b : ℕ) (s : Status) → rise from below es ≡ true → slice_get es i ≡ Some (b, s) → IsPlace b i es
 place_of from below [] i b s h e = absurd (let no : None ≡ Some (b, s) = e in cc no)
 place_of from below (t ∷ ts) zero b s h e = eq-eqb t.0 b (ap (λ (u : ℕ × Status). u.0) (same_pair t b s e))
 place_of from below (t ∷ ts) (suc i) b s h e =

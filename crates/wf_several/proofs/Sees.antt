@@ -10,7 +10,6 @@ use Rattle.wf_ast.specs.Tree.{Program}
 use Rattle.wf_branches.specs.Changes.{new_join}
 use Rattle.wf_branches.specs.Steps.{join_of}
 use Rattle.wf_branches.specs.Table.{Join, Status}
-use Rattle.wf_frames.specs.Forks.{parallel_at, work_view}
 use Rattle.wf_frames.specs.Frames.{control, inner}
 use Rattle.wf_frames.specs.Owned.{Around, IsLinked, own_of}
 use Rattle.wf_frames.specs.Tasks.{far_layers, own_layers}
@@ -22,7 +21,7 @@ use Rattle.wf_model.specs.Config.{Config, Item, Layer, limits, task, task_in}
 use Rattle.wf_model.specs.Local.{Local, Outer, layers_total, outers_total}
 use Rattle.wf_model.specs.Spots.{Spot, spots}
 use Rattle.wf_model.specs.Taken.{local, outside, scene, tasks_total}
-use Rattle.wf_moves.specs.Waits.{control_in, is_joining, task_local, wait_view}
+use Rattle.wf_moves.specs.Waits.{control_in, is_joining, standing_at, task_local, wait_view}
 use Rattle.wf_moves.specs.declared.task.Task.{Task}
 use Rattle.wf_moves.specs.declared.wait.Wait.{Wait}
 use Rattle.wf_moves.specs.declared.wait.Wait.TheVariants as wait
@@ -33,7 +32,7 @@ use Rattle.wf_several.proofs.Here.{holder_here, task_here}
 use Rattle.wf_several.proofs.Merges.{view_shows}
 use Rattle.wf_several.proofs.Seen.{each_stands}
 use Rattle.wf_several.specs.Here.{HasControl, IsPlace, NewIsAlike, NoneIsAlike, TaskReads}
-use Rattle.wf_several.specs.Several.{AllGoOn, around_of, holder_of, holders_of, plain_around, task_view, tasks_view, with_join}
+use Rattle.wf_several.specs.Several.{AllGoOn, around_of, control_at, holder_of, holders_of, plain_around, task_view, tasks_view, with_join}
 use Rattle.wf_stores.proofs.Outside.{outside_is}
 use Rattle.wf_stores.proofs.Sizes.{all_sum}
 use Rattle.wf_stores.specs.Holders.{Holder, IsChildless, all_total, holder_in, keys_of}
@@ -66,7 +65,7 @@ joinless (Some j) ns (frame.Back c number ∷ fs) = refl
 joinless (Some j) ns (frame.Judge judging ∷ fs) = refl
 
 -- a task that stands in none has the control of its frames
-frames_control : (ns : List Spot) (w : Wait) (k : List Item) → is_joining w ≡ false → control_in ns w k ≡ k
+pub frames_control : (ns : List Spot) (w : Wait) (k : List Item) → is_joining w ≡ false → control_in ns w k ≡ k
 frames_control ns wait.Awake k e = refl
 frames_control ns (wait.Sleep due node) k e = refl
 frames_control ns (wait.Delay due) k e = refl
@@ -91,7 +90,7 @@ wait_same p a is (wait.Calling call node) = ap (λ ns. wait_view (record (plain_
 wait_same p a is (wait.Joining j) = refl
 
 -- what all tasks' variables come to
-total_all : (p : Program) (es : List (ℕ × Status)) (ts : List Task) (x : Scopes) → tasks_total (tasks_view p es ts x) ≡ all_total (holders_of p es ts) (layers_of x)
+pub total_all : (p : Program) (es : List (ℕ × Status)) (ts : List Task) (x : Scopes) → tasks_total (tasks_view p es ts x) ≡ all_total (holders_of p es ts) (layers_of x)
 total_all p [] ts x = refl
 total_all p (e ∷ es) [] x = refl
 total_all p (e ∷ es) (t ∷ ts) x = ap (λ n. layers_total (own_layers (own_of t.frames) (layers_of x)) + n) (total_all p es ts x)
@@ -126,6 +125,12 @@ module _ (p : Program) (rules : ℕ) (es : List (ℕ × Status)) (ts : List Task
     outside_here : outside b c s.parent [] ≡ far_layers (keys_of Hs H) (layers_of x)
     outside_here = outside_is Hs (layers_of x) c shows b s.parent []
 
+    -- the task at its control
+    pub local_at : local c b (task_view p (plain_around p) s t x) ≡ standing_at A t x (control_at p s t)
+    local_at =
+        ap {B = Local} (λ (os : List Outer). record { control = control_at p s t; layers = own_layers (own_of t.frames) (layers_of x); outer = os; wait = wait_view (plain_around p) t.wait }) outside_here
+        ∙ ap {B = Local} (λ (w : model.Wait). record { control = control_at p s t; layers = own_layers (own_of t.frames) (layers_of x); outer = far_layers (keys_of Hs H) (layers_of x); wait = w }) (wait_same p A refl t.wait)
+
     -- the task by itself
     pub local_is : HasControl s.join (spots p.flows) t → local c b (task_view p (plain_around p) s t x) ≡ task_local A t x
     local_is same =
@@ -159,19 +164,15 @@ none_is_alike p s u none =
     (record { waits = refl; join = ap join_of same ∙ none_joined (spots p.flows) u none }, same)
 
 -- no branch has begun
-new_control : (ns : List Spot) (w : Wait) (k : List Item) (total limit : ℕ) → with_join (Some (new_join total limit)) k ≡ k → join_of (control_in ns w k) ≡ Some (new_join total limit)
-    → with_join (Some (new_join total limit)) (control_in ns w k) ≡ control_in ns w k
-new_control ns wait.Awake k total limit same is = same
-new_control ns (wait.Sleep due node) k total limit same is = same
-new_control ns (wait.Delay due) k total limit same is = same
-new_control ns (wait.Calling call node) k total limit same is = same
-new_control ns (wait.Joining j) k total limit same is =
-    let joined : option_map (λ (y : Join). y.next) (join_of (control_in ns (wait.Joining j) k)) ≡ Some 0 = ap (option_map (λ (y : Join). y.next)) is in
-    let first : j.value.next ≡ 0 = cc joined in
-    ap (λ (n : ℕ). model.Join (parallel_at ns j.value.node) (work_view (parallel_at ns j.value.node) j.value.next j.value.left) n [] [] ∷ k) (sym first)
+new_control : (ns : List Spot) (w : Wait) (k : List Item) (total limit : ℕ) → with_join (Some (new_join total limit)) k ≡ k → with_join (Some (new_join total limit)) (control_in ns w k) ≡ control_in ns w k
+new_control ns wait.Awake k total limit same = same
+new_control ns (wait.Sleep due node) k total limit same = same
+new_control ns (wait.Delay due) k total limit same = same
+new_control ns (wait.Calling call node) k total limit same = same
+new_control ns (wait.Joining j) k total limit same = refl
 
 pub new_is_alike : NewIsAlike
 new_is_alike p s u total limit is =
     let ns = spots p.flows in
-    let same = new_control ns u.wait (control ns (inner u.frames)) total limit (joinless (Some (new_join total limit)) ns (inner u.frames)) is in
+    let same = new_control ns u.wait (control ns (inner u.frames)) total limit (joinless (Some (new_join total limit)) ns (inner u.frames)) in
     (record { waits = refl; join = ap join_of same ∙ is }, same)

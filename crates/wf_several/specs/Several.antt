@@ -28,9 +28,9 @@ use Rattle.wf_stores.specs.Steps.{parent_number}
 use Rattle.wf_value.specs.Maps.{IsInOrder}
 
 -- ## Controls
--- a task that stands in a parallel step keeps its node and what is left; the tasks that run and the errors stand in the table
+-- a task that stands in a parallel step keeps its node, what is left and which is next; the tasks that run and the errors stand in the table
 abbrev pub with_join : Option Join → List Item → List Item
-with_join (Some j) (Item.Join body left n running es ∷ k) = Item.Join body left j.next j.running j.errors ∷ k
+with_join (Some j) (Item.Join body left n running es ∷ k) = Item.Join body left n j.running j.errors ∷ k
 with_join o k = k
 
 -- that of a task whose frames stand so in the table of the program's nodes

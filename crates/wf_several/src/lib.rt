@@ -2,6 +2,7 @@
 //! of all. The functions do nothing; their clauses are laws.
 #![tactic(auto)]
 
+ghost use Rattle.wf_several.specs.Branches.{BranchAdds, BranchIsGone, BranchIsRefused, BranchesJoin};
 ghost use Rattle.wf_several.specs.Here.{EntryIsHere, NewIsAlike, NoneIsAlike, TaskLeaves, TaskReads};
 ghost use Rattle.wf_several.specs.Merges.{MoveMerges};
 ghost use Rattle.wf_several.specs.Several.{EachStands, TableIsSeen};
@@ -34,4 +35,13 @@ pub fn laws_of_standing()
     ensures first { FirstStands }
     ensures numbers { NumbersRise }
     ensures childless { NobodysParent }
+{}
+
+/// A parallel step among the live tasks: its next branch is one task more, or its names don't fit and it has ended at once; and a branch
+/// that has ended is gone, and its parallel step keeps its error; and where all have ended the task goes on behind it.
+pub fn laws_of_branches()
+    ensures adds { BranchAdds }
+    ensures refused { BranchIsRefused }
+    ensures gone { BranchIsGone }
+    ensures join { BranchesJoin }
 {}
