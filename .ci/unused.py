@@ -20,7 +20,7 @@ from functions import unreached
 # public functions, or all those of a type or of a crate, that the program doesn't reach, by the reason why they are there
 EXPECTED = {
     "for callbacks": ("wf_args::listen_of", "wf_callbacks::Endpoints", "wf_http_serve::reply_bytes", "wf_http_value::visit_value", "wf_visits"),
-    "for parallel steps": ("wf_branches", "wf_moves::Task::branch", "wf_moves::Task::join"),
+    "for parallel steps": ("wf_branches", "wf_moves::Task::branch", "wf_moves::Task::join", "wf_moves::Task::join_error"),
     "for snapshots": ("wf_states::state_value",),
     "hosts and sources in memory, for cases": ("wf_host::Address::is_same", "wf_host::MemHost", "wf_host::MemSource"),
     "laws that are told of a call": ("wf_ends::run_to_the_end", "wf_format_laws::layout_of", "wf_json_laws::compact", "wf_json_laws::read_again"),

@@ -3,31 +3,30 @@
 --     branches_join     its branches have all ended
 --     branch_adds       its next branch begins
 --     branch_refused    or its names don't fit
-use Rattle.std.proofs.Common.{◌≡◌, inl, inr, ℕ, zero, suc, ◌+◌, ◌<◌, Bool, true, false, List, [], ◌∷◌, ◌++◌, Option, Some, None, Ok, Err, refl, sym, ap, subst, ◌∙◌, add-one, arith}
+use Rattle.std.proofs.Common.{◌≡◌, inl, inr, ℕ, suc, ◌+◌, ◌<◌, Bool, true, false, List, [], ◌∷◌, ◌++◌, Option, Some, None, Ok, Err, refl, sym, ap, subst, ◌∙◌, add-one, arith}
 use Rattle.std.specs.Global.{Global}
-use Rattle.std.specs.Prelude.{Box, Result, if◌then◌else◌, length, map, nat_eq, nat_le, not, option_map, slice_get, slice_set}
+use Rattle.std.specs.Prelude.{Box, ◌||◌, if◌then◌else◌, length, nat_le, not, option_map, slice_set}
 use Rattle.std.proofs.lemmas.Bool.{and_parts, cases_eq, leb-true, ne_eqb}
-use Rattle.std.proofs.lemmas.List.{map-set}
 use Rattle.wf_ast.specs.Tree.{ParallelBody, Program, Steps, branch as branch_of_tree, no_branches, parallel}
 use Rattle.wf_branches.proofs.Rising.{put_at, put_last, set_rises, push_rises, within_at}
 use Rattle.wf_branches.proofs.Steps.{refused_is}
 use Rattle.wf_branches.specs.Changes as change
 use Rattle.wf_branches.specs.Changes.{begun_in, new_status, next_in, on_join}
-use Rattle.wf_branches.specs.Steps.{above, branches_count, count_of, join_of, live_of, status_of, table_by}
+use Rattle.wf_branches.specs.Steps.{above, branches_count, count_of, join_of, live_of, table_by}
 use Rattle.wf_branches.specs.Table as table
 use Rattle.wf_branches.specs.Table.{Join, Status, Table, has_ended, rise, runs_none, status_in}
-use Rattle.wf_frames.proofs.Names.{Last, Same, find_last, fresh_none, names_bound}
+use Rattle.wf_frames.proofs.Names.{Same, find_last, fresh_none, names_bound}
 use Rattle.wf_frames.proofs.Owning.{innermost_own}
 use Rattle.wf_frames.proofs.Parts.{list_is}
 use Rattle.wf_frames.proofs.Standing.{standing}
 use Rattle.wf_frames.proofs.Unseen.{besides_more}
 use Rattle.wf_frames.specs.Forks.{is_work_at, opened_in, parallel_at, work_view}
-use Rattle.wf_frames.specs.Frames.{control, inner, own}
+use Rattle.wf_frames.specs.Frames.{control, inner}
 use Rattle.wf_frames.specs.Innermost.{innermost}
 use Rattle.wf_frames.specs.Stands.{Stands}
-use Rattle.wf_frames.specs.Owned.{Around, IsLinked, OwnStand, besides, first_key, next_own, outer_for, own_of}
+use Rattle.wf_frames.specs.Owned.{Around, IsLinked, besides, own_of}
 use Rattle.wf_frames.specs.Standing.{AllStandAt}
-use Rattle.wf_frames.specs.Tasks.{Own, own_layers}
+use Rattle.wf_frames.specs.Tasks.{own_layers}
 use Rattle.wf_frames.specs.Turns.{bound_all}
 use Rattle.wf_frames.specs.declared.frames.Frame.{Frame}
 use Rattle.wf_frames.specs.declared.frames.Frame.TheVariants as frame
@@ -35,7 +34,7 @@ use Rattle.wf_frames.specs.declared.frames.Frames.{Frames}
 use Rattle.wf_model.specs.Config as model
 use Rattle.wf_model.specs.Config.{After, Awake, BranchesLeft, Config, Do, Item, OfList, OfRange, To, ValuesLeft, WorkLeft, is_empty, limits, put_in, task_in, with_task}
 use Rattle.wf_model.specs.Layers as meaning
-use Rattle.wf_model.specs.Local.{Goes, Local, Moved, Not, Scene, goes, settle, settled}
+use Rattle.wf_model.specs.Local.{Goes, Local, Not, Scene, goes, settle, settled}
 use Rattle.wf_model.specs.Move.{joins as model_joins, move, moves}
 use Rattle.wf_model.specs.Ready.{is_awake, limit_of}
 use Rattle.wf_model.specs.RunLaws.{RisesFrom}
@@ -50,17 +49,15 @@ use Rattle.wf_moves.proofs.Going.{is_going}
 use Rattle.wf_moves.proofs.Leaving.{do_stands}
 use Rattle.wf_moves.proofs.Waiting.{is_awake as awake_is}
 use Rattle.wf_moves.specs.Moved.{IsGoing}
-use Rattle.wf_moves.specs.Branches.{Begins, BranchSo, BranchesOff, First, IsBegun, begins_with, error_by, error_in, first_of, joins_with}
-use Rattle.wf_moves.specs.Waits.{CanGoOn, GoesFrom, control_in, is_awake_in, is_joining, join_item, standing_at, wait_view}
-use Rattle.wf_moves.specs.declared.branch.Begun.TheVariants as branch
+use Rattle.wf_moves.specs.Branches.{BranchesOff, First, IsBegun, begins_with, error_by, error_in, joins_with}
+use Rattle.wf_moves.specs.Waits.{CanGoOn, GoesFrom, control_in, is_joining, join_item, standing_at, wait_view}
 use Rattle.wf_moves.specs.declared.task.Task.{Task}
 use Rattle.wf_moves.specs.declared.wait.Joining.{Joining}
 use Rattle.wf_moves.specs.declared.wait.Wait.{Wait}
 use Rattle.wf_moves.specs.declared.wait.Wait.TheVariants as wait
 use Rattle.wf_scope.proofs.Kept.{find_more}
-use Rattle.wf_scope.specs.Layers.{Layer, depth_in, find, fresh, new_layer, rises, total_of, vars_at, vars_in}
+use Rattle.wf_scope.specs.Layers.{Layer, depth_in, find, fresh, new_layer, total_of, vars_at, vars_in}
 use Rattle.wf_scope.specs.Store.{layers_of}
-use Rattle.wf_scope.specs.declared.fault.AssignFault.{AssignFault}
 use Rattle.wf_scope.specs.declared.fault.AssignFault.TheVariants as fault
 use Rattle.wf_scope.specs.declared.scopes.Scopes.{Scopes}
 use Rattle.wf_several.proofs.Counts.{first_counts, left_stays}
@@ -76,10 +73,10 @@ use Rattle.wf_several.specs.Standing.{AllFitAt}
 use Rattle.wf_stores.proofs.Branches.{branch_begins, more_none}
 use Rattle.wf_stores.proofs.Goes.{find_beside}
 use Rattle.wf_stores.proofs.Sizes.{all_sum}
-use Rattle.wf_stores.specs.Holders.{AllStand, HasParent, Holder, IsChildless, branch_of, holder_in, innermost_of, keys_of, with_own}
+use Rattle.wf_stores.specs.Holders.{AllStand, HasParent, Holder, IsChildless, branch_of, holder_in, innermost_of, with_own}
 use Rattle.wf_value.proofs.Order.{in_order_empty}
-use Rattle.wf_value.specs.Data.{Data, Pairs, no_pairs, pairs_of}
-use Rattle.wf_value.specs.Errors.{Answer, error_map}
+use Rattle.wf_value.specs.Data.{Data, no_pairs, pairs_of}
+use Rattle.wf_value.specs.Errors.{error_map}
 use Rattle.wf_value.specs.Maps.{IsInOrder}
 use Rattle.wf_value.specs.Plain.{plain}
 use Rattle.wf_value.specs.declared.Tag.TheVariants.{ResourceLimitError}
@@ -89,6 +86,9 @@ use Rattle.wf_value.specs.declared.Value.{Value}
 besides_no : (ls : List Layer) → besides [] ls ≡ ls
 besides_no [] = refl
 besides_no (l ∷ ls) = ap (λ ms. l ∷ ms) (besides_no ls)
+
+no_variables : IsInOrder {X = Data} []
+no_variables = in_order_empty {X = Data} [] refl
 
 -- ## Parallel steps
 -- they share the same names
@@ -114,7 +114,8 @@ settled_at : (ns : List Spot) (nodes : List Node) (r : Resolves ns nodes) (fs : 
 settled_at ns nodes r [] ss l e h = absurd h
 settled_at ns nodes r (frame.Do n at ∷ fs) ss l e h =
     subst (λ k. settle k l ≡ record l { control = k }) e (do_stands ns n at h.0.steps (list_is ns nodes n h.0 r h.1) h.2 (control ns fs) l)
-settled_at ns nodes r (frame.Lone n done ∷ fs) ss l e h = absurd (cc e)
+settled_at ns nodes r (frame.Lone n true ∷ fs) ss l e h = absurd h
+settled_at ns nodes r (frame.Lone n false ∷ fs) ss l e h = absurd (cc e)
 settled_at ns nodes r (frame.Entries n at ∷ fs) ss l e h = absurd (cc e)
 settled_at ns nodes r (frame.Then n ∷ fs) ss l e h = absurd (cc e)
 settled_at ns nodes r (frame.Loop looping ∷ fs) ss l e h = absurd (cc e)
@@ -164,7 +165,7 @@ module _ (p : Program) (nodes : List Node) (rules : ℕ) (es : List (ℕ × Stat
   total_is = ap tasks_total h.is ∙ total_all p es ts x ∙ all_sum Hs (layers_of x) h.all.stand
 
   limit_is : (limits c.facts.rules).variables ≡ x.limit
-  limit_is = ap (λ n. (limits n).variables) (sym h.rules) ∙ sym h.all.limit
+  limit_is = ap (λ n. (limits n).variables) (sym h.its_rules) ∙ sym h.all.limit
 
   -- ## The parallel step in which it stands
   module _ (box : Box Joining Global) (was : t.wait ≡ wait.Joining box) where
@@ -296,13 +297,13 @@ module _ (p : Program) (nodes : List Node) (rules : ℕ) (es : List (ℕ × Stat
           let was = (each_fits p nodes i ts t u h.fit h.here.task).0 in
           let work : is_work_at nodes Was.node Was.left ≡ true = subst (λ w. GoesFrom nodes w t.frames) off.was was.1 in
           let stays : is_work_at nodes Was.node Is.left ≡ true =
-              left_stays nodes Was.node P Was.next Is.next Was.left Is.left f work off.steps.first off.steps.left in
+          left_stays nodes Was.node P Was.next Is.next Was.left Is.left f work off.steps.first off.steps.left in
           (subst (λ (g : Frames). AllStandAt NS nodes (inner g)) (sym off.frames) was.0, subst (λ w. GoesFrom nodes w u.frames) (sym off.is) (ap (λ n. is_work_at nodes n Is.left) off.steps.node ∙ stays))
 
       fit_all : AllFitAt p nodes (slice_set ts i u)
       fit_all = (each_fits p nodes i ts t u h.fit h.here.task).1 fit_itself
-
       -- ## Its next branch is a task
+
     module _ (v : Task) (new : Scopes) (begun : IsBegun NS nodes f (fresh (layers_of x)) v) (limit : new.limit ≡ x.limit)
         (told : bound_all x.limit (fresh (layers_of x)) f.names (opened_in (innermost t.frames.first (inner t.frames)) (layers_of x)) ≡ Ok (layers_of new)) where
       abbrev Fresh : ℕ
@@ -311,8 +312,8 @@ module _ (p : Program) (nodes : List Node) (rules : ℕ) (es : List (ℕ × Stat
       abbrev Inside : ℕ
       Inside = innermost t.frames.first (inner t.frames)
 
-      abbrev After : Status
-      After = on_join (begun_in c.made) s
+      abbrev Later : Status
+      Later = on_join (begun_in c.made) s
 
       abbrev First_of : Status
       First_of = new_status (Some (a, next_in s.join))
@@ -320,11 +321,11 @@ module _ (p : Program) (nodes : List Node) (rules : ℕ) (es : List (ℕ × Stat
       abbrev Running : List ℕ
       Running = J.running ++ c.made ∷ []
 
-      joins_after : After.join ≡ Some (record { total = Was.next + count_of W; limit = limit_of P; next = suc Was.next; running = Running; errors = J.errors })
+      joins_after : Later.join ≡ Some (record { total = Was.next + count_of W; limit = limit_of P; next = suc Was.next; running = Running; errors = J.errors })
       joins_after = ap (option_map (begun_in c.made)) joined.at ∙ ap {B = Option Join} (λ j. Some (begun_in c.made j)) joined.is
 
       abbrev Es : List (ℕ × Status)
-      Es = slice_set es i (a, After)
+      Es = slice_set es i (a, Later)
 
       abbrev Ts : List Task
       Ts = slice_set ts i u
@@ -332,15 +333,15 @@ module _ (p : Program) (nodes : List Node) (rules : ℕ) (es : List (ℕ × Stat
       table_is : change.begun a (table_with es c.made) ≡ record { live = Es ++ (c.made, First_of) ∷ []; made = suc c.made }
       table_is =
           ap {B = Table} (λ (o : Option Status). elim o [ None ↦ table_with es c.made | Some r ↦ change.begun_by a r (table_with es c.made) ]) (status_here p a i es s h.here.place h.here.status)
-          ∙ ap {B = Table} (λ us. record { live = table.put_in c.made First_of us; made = suc c.made }) (put_at 0 c.made es i a s After h.numbers h.here.status)
-          ∙ ap {B = Table} (λ us. record { live = us; made = suc c.made }) (put_last 0 c.made Es First_of (rises_after After Running J.errors refl refl joins_after))
+          ∙ ap {B = Table} (λ us. record { live = table.put_in c.made First_of us; made = suc c.made }) (put_at 0 c.made es i a s Later h.numbers h.here.status)
+          ∙ ap {B = Table} (λ us. record { live = us; made = suc c.made }) (put_last 0 c.made Es First_of (rises_after Later Running J.errors refl refl joins_after))
 
       -- ### Its layer
       fitted : Same x.limit Fresh (layers_of x) (fresh_none (layers_of x)) (Some Inside) (Ok (layers_of new)) (meaning.bound x.limit (total_of (layers_of x)) f.names no_pairs)
       fitted =
           subst (λ r. Same x.limit Fresh (layers_of x) (fresh_none (layers_of x)) (Some Inside) r (meaning.bound x.limit (total_of (layers_of x)) f.names no_pairs)) told
           (names_bound x.limit Fresh (layers_of x) (fresh_none (layers_of x)) f.names (Some Inside) (opened_in Inside (layers_of x)) no_pairs
-          (record { layer = new_layer Fresh (Some Inside) (suc (depth_in (find Inside (layers_of x)))); is = refl; number = refl; inside = refl; vars = refl; order = in_order_empty }))
+          (record { layer = new_layer Fresh (Some Inside) (suc (depth_in (find Inside (layers_of x)))); is = refl; number = refl; inside = refl; vars = refl; order = no_variables }))
 
       abbrev New : Layer
       New = fitted.2.layer
@@ -361,7 +362,7 @@ module _ (p : Program) (nodes : List Node) (rules : ℕ) (es : List (ℕ × Stat
       ]
         where
           elsewhere : (n : ℕ) → (n ≡ Fresh → ⊥) → find n (layers_of new) ≡ find n (layers_of x)
-          elsewhere n d = sym (find_beside n (Fresh ∷ []) (layers_of new) (ap (λ (b : Bool). if b then true else false) (ne_eqb n Fresh d))) ∙ ap (find n) rest
+          elsewhere n d = sym (find_beside n (Fresh ∷ []) (layers_of new) (ap (λ (b : Bool). b || false) (ne_eqb n Fresh d))) ∙ ap (find n) rest
 
       -- ### The new task
       awake : v.wait ≡ wait.Awake
@@ -387,12 +388,12 @@ module _ (p : Program) (nodes : List Node) (rules : ℕ) (es : List (ℕ × Stat
           fitted.2.inside ∙ ap Some (sym top.number) ∙ sym (ap innermost_of top.is)
 
       all_first : AreAlike p (Es ++ (c.made, First_of) ∷ []) (Ts ++ v ∷ [])
-      all_first = alike_add p Es Ts (c.made, First_of) v (all_alike After Running J.errors refl refl joins_after) alike_first
+      all_first = alike_add p Es Ts (c.made, First_of) v (all_alike Later Running J.errors refl refl joins_after) alike_first
 
       holders_first : holders_of p (Es ++ (c.made, First_of) ∷ []) (Ts ++ v ∷ []) ≡ Hs ++ branch_of c.made a Fresh ∷ []
       holders_first =
-          holders_add p Es Ts (c.made, First_of) v (all_alike After Running J.errors refl refl joins_after)
-          ∙ ap (λ hs. hs ++ holder_of p (c.made, First_of) v ∷ []) (holders_same After Running J.errors refl refl joins_after)
+          holders_add p Es Ts (c.made, First_of) v (all_alike Later Running J.errors refl refl joins_after)
+          ∙ ap (λ hs. hs ++ holder_of p (c.made, First_of) v ∷ []) (holders_same Later Running J.errors refl refl joins_after)
           ∙ ap (λ g. Hs ++ g ∷ []) holder_first
 
       all_go_on : AllGoOn p rules (Es ++ (c.made, First_of) ∷ []) (Ts ++ v ∷ []) new
@@ -406,7 +407,7 @@ module _ (p : Program) (nodes : List Node) (rules : ℕ) (es : List (ℕ × Stat
 
       -- it fits, since it stands by itself
       rises_first : rise 0 (suc c.made) (Es ++ (c.made, First_of) ∷ []) ≡ true
-      rises_first = push_rises 0 c.made Es First_of (rises_after After Running J.errors refl refl joins_after) (omega arith)
+      rises_first = push_rises 0 c.made Es First_of (rises_after Later Running J.errors refl refl joins_after) (omega arith)
 
       abbrev All : List Holder
       All = holders_of p (Es ++ (c.made, First_of) ∷ []) (Ts ++ v ∷ [])
@@ -430,7 +431,7 @@ module _ (p : Program) (nodes : List Node) (rules : ℕ) (es : List (ℕ × Stat
       }
 
       fit_first : AllFitAt p nodes (Ts ++ v ∷ [])
-      fit_first = fit_add p nodes Ts v (fit_all After Running J.errors refl refl joins_after) ((standing (around_of p rules All Its (layers_of new)) nodes v.frames new linked_first).fit, begun.going)
+      fit_first = fit_add p nodes Ts v (fit_all Later Running J.errors refl refl joins_after) ((standing (around_of p rules All Its (layers_of new)) nodes v.frames new linked_first).fit, begun.going)
 
       -- ### In the configuration
       abbrev Alone : Local
@@ -440,12 +441,12 @@ module _ (p : Program) (nodes : List Node) (rules : ℕ) (es : List (ℕ × Stat
       settles = ap settled (settled_at NS nodes h.tells.resolves (inner v.frames) f.steps Alone begun.control (is_going nodes (inner v.frames) (subst (λ w. GoesFrom nodes w v.frames) awake begun.going).0))
 
       numbers_are : (y : Scopes) → RisesFrom 0 c.made (tasks_view p Es Ts y)
-      numbers_are y = rises_view p 0 c.made Es Ts y (rises_after After Running J.errors refl refl joins_after)
+      numbers_are y = rises_view p 0 c.made Es Ts y (rises_after Later Running J.errors refl refl joins_after)
 
       same_views : tasks_view p Es Ts new ≡ tasks_view p Es Ts x
       same_views =
-          views_stay p c.made Es Ts x new (rises_after After Running J.errors refl refl joins_after) (all_alike After Running J.errors refl refl joins_after)
-          (subst (λ hs. AllStand hs (layers_of x)) (sym (holders_same After Running J.errors refl refl joins_after)) h.all.stand) stays
+          views_stay p c.made Es Ts x new (rises_after Later Running J.errors refl refl joins_after) (all_alike Later Running J.errors refl refl joins_after)
+          (subst (λ hs. AllStand hs (layers_of x)) (sym (holders_same Later Running J.errors refl refl joins_after)) h.all.stand) stays
 
       abbrev Bare : model.Task
       Bare = new_task a Was.next
@@ -457,7 +458,7 @@ module _ (p : Program) (nodes : List Node) (rules : ℕ) (es : List (ℕ × Stat
       With = with_task c.made Bare (step.begun a Itself P f.left Was.next Running J.errors K c)
 
       with_tasks : With.tasks ≡ tasks_view p Es Ts x ++ (c.made, Bare) ∷ []
-      with_tasks = ap (put_in c.made Bare) (put_after After Running J.errors refl refl joins_after) ∙ last_put c.made Bare 0 (tasks_view p Es Ts x) (numbers_are x)
+      with_tasks = ap (put_in c.made Bare) (put_after Later Running J.errors refl refl joins_after) ∙ last_put c.made Bare 0 (tasks_view p Es Ts x) (numbers_are x)
 
       stood_is : Stood ≡ task_view p PA First_of v new
       stood_is =
@@ -478,7 +479,7 @@ module _ (p : Program) (nodes : List Node) (rules : ℕ) (es : List (ℕ × Stat
           ∙ last_again c.made Bare Stood 0 (tasks_view p Es Ts x) (numbers_are x)
           ∙ ap (λ us. us ++ (c.made, Stood) ∷ []) (sym same_views)
           ∙ ap (λ w. tasks_view p Es Ts new ++ (c.made, w) ∷ []) stood_is
-          ∙ sym (view_add p Es Ts new (c.made, First_of) v (all_alike After Running J.errors refl refl joins_after)))
+          ∙ sym (view_add p Es Ts new (c.made, First_of) v (all_alike Later Running J.errors refl refl joins_after)))
 
       fits_there : meaning.bound (limits c.facts.rules).variables (tasks_total c.tasks) f.names no_pairs ≡ Ok fitted.0
       fits_there = ap (λ n. meaning.bound n (tasks_total c.tasks) f.names no_pairs) limit_is ∙ ap (λ n. meaning.bound x.limit n f.names no_pairs) total_is ∙ fitted.1
@@ -521,7 +522,7 @@ module _ (p : Program) (nodes : List Node) (rules : ℕ) (es : List (ℕ × Stat
           ap (λ n. meaning.bound n (tasks_total c.tasks) f.names no_pairs) limit_is ∙ ap (λ n. meaning.bound x.limit n f.names no_pairs) total_is
           ∙ subst (λ r. Same x.limit (fresh ls) ls (fresh_none ls) (Some o) r (meaning.bound x.limit (total_of ls) f.names no_pairs)) told
           (names_bound x.limit (fresh ls) ls (fresh_none ls) f.names (Some o) (opened_in o ls) no_pairs
-          (record { layer = new_layer (fresh ls) (Some o) (suc (depth_in (find o ls))); is = refl; number = refl; inside = refl; vars = refl; order = in_order_empty }))
+          (record { layer = new_layer (fresh ls) (Some o) (suc (depth_in (find o ls))); is = refl; number = refl; inside = refl; vars = refl; order = no_variables }))
 
       left_tasks : Left.tasks ≡ tasks_view p Fs Us x
       left_tasks = put_after Failed J.running Kept refl refl refl
@@ -563,6 +564,9 @@ module _ (p : Program) (nodes : List Node) (rules : ℕ) (es : List (ℕ × Stat
 
   -- ## All its branches have ended
   module _ (j : Join) (at : s.join ≡ Some j) (done : has_ended j ≡ true) where
+    not_there : {A : Type 0} → is_joining t.wait ≡ false → A
+    not_there e = absurd (cc (sym (ap join_of (no_join s.join NS t e) ∙ none_joined NS t e) ∙ its_alike.join ∙ at))
+
     stands_in : (w : Wait) → t.wait ≡ w → (box : Box Joining Global) × (t.wait ≡ wait.Joining box)
     stands_in (wait.Joining box) e = (box, e)
     stands_in wait.Awake e = not_there (ap is_joining e)
@@ -570,50 +574,47 @@ module _ (p : Program) (nodes : List Node) (rules : ℕ) (es : List (ℕ × Stat
     stands_in (wait.Delay due) e = not_there (ap is_joining e)
     stands_in (wait.Calling call n) e = not_there (ap is_joining e)
 
-    not_there : {A : Type 0} → is_joining t.wait ≡ false → A
-    not_there e = absurd (cc (sym (ap join_of (no_join s.join NS t e) ∙ none_joined NS t e) ∙ its_alike.join ∙ at))
+    module _ (box : Box Joining Global) (was : t.wait ≡ wait.Joining box) where
+      there_at : JoinedAt box was
+      there_at = joined_at box was
 
-    box : Box Joining Global
-    box = (stands_in t.wait refl).0
+      it_is : there_at.join ≡ j
+      it_is = cc (sym there_at.at ∙ at)
 
-    there_at : JoinedAt box (stands_in t.wait refl).1
-    there_at = joined_at box (stands_in t.wait refl).1
+      ended : (nat_le j.total j.next ≡ true) × (runs_none j.running ≡ true)
+      ended = and_parts (nat_le j.total j.next) (runs_none j.running) done
 
-    it_is : there_at.join ≡ j
-    it_is = cc (sym there_at.at ∙ at)
+      none_left : is_empty (work_view (parallel_at NS box.value.node) box.value.next box.value.left) ≡ true
+      none_left =
+          let w = work_view (parallel_at NS box.value.node) box.value.next box.value.left in
+          empty_of w box.value.next (sym (ap (λ (y : Join). nat_le y.total y.next) there_at.is) ∙ ap (λ (y : Join). nat_le y.total y.next) it_is ∙ ended.0)
 
-    ended : (nat_le j.total j.next ≡ true) × (runs_none j.running ≡ true)
-    ended = and_parts (nat_le j.total j.next) (runs_none j.running) done
-
-    none_left : is_empty (work_view (parallel_at NS box.value.node) box.value.next box.value.left) ≡ true
-    none_left =
-        let w = work_view (parallel_at NS box.value.node) box.value.next box.value.left in
-        empty_of w box.value.next (sym (ap (λ (y : Join). nat_le y.total y.next) there_at.is) ∙ ap (λ (y : Join). nat_le y.total y.next) it_is ∙ ended.0)
-
-    pub joins : (scene : Scene) → move scene (local c a Itself) ≡ joins_with scene (kept_by NS t.wait j.errors) (control NS (inner t.frames)) (standing_at (around_here p rules es ts x a s t) t x (control_at p s t))
-    joins scene =
-        let l = local c a Itself in
-        let P = parallel_at NS box.value.node in
-        let W = work_view P box.value.next box.value.left in
-        let K = control NS (inner t.frames) in
-        ap (λ k. moves scene k l) there_at.control
-        ∙ ap (λ (y : Join). moves scene (Item.Join P W box.value.next y.running y.errors ∷ K) l) it_is
-        ∙ ap (λ rs. moves scene (Item.Join P W box.value.next rs j.errors ∷ K) l) (none_of j.running ended.1)
-        ∙ ap (λ (y : Bool). if y then model_joins scene P j.errors K l else Not) none_left
-        ∙ joins_so scene P j.errors K l
-        ∙ ap (λ o. joins_with scene o K l) (same_error j.errors)
-        ∙ ap (joins_with scene (kept_by NS t.wait j.errors) K) (local_at p rules es ts x h.all i a s t h.here.place h.here.status h.here.task c h.is)
-      where
-        same_error : (fs : List (ℕ × Data)) → error_in (parallel_at NS box.value.node) fs ≡ kept_by NS t.wait fs
-        same_error [] = refl
-        same_error (f ∷ fs) = ap (λ w. Some (error_by NS w (f ∷ fs))) (sym (stands_in t.wait refl).1)
+      pub joins : (scene : Scene) → move scene (local c a Itself) ≡ joins_with scene (kept_by NS t.wait j.errors) (control NS (inner t.frames)) (standing_at (around_here p rules es ts x a s t) t x (control_at p s t))
+      joins scene =
+          let l = local c a Itself in
+          let P = parallel_at NS box.value.node in
+          let W = work_view P box.value.next box.value.left in
+          let K = control NS (inner t.frames) in
+          ap (λ k. moves scene k l) there_at.control
+          ∙ ap (λ (y : Join). moves scene (Item.Join P W box.value.next y.running y.errors ∷ K) l) it_is
+          ∙ ap (λ rs. moves scene (Item.Join P W box.value.next rs j.errors ∷ K) l) (none_of j.running ended.1)
+          ∙ ap (λ (y : Bool). if y then model_joins scene P j.errors K l else Not) none_left
+          ∙ joins_so scene P j.errors K l
+          ∙ ap (λ o. joins_with scene o K l) (same_error j.errors)
+          ∙ ap (joins_with scene (kept_by NS t.wait j.errors) K) (local_at p rules es ts x h.all i a s t h.here.place h.here.status h.here.task c h.is)
+        where
+          same_error : (fs : List (ℕ × Data)) → error_in (parallel_at NS box.value.node) fs ≡ kept_by NS t.wait fs
+          same_error [] = refl
+          same_error (f ∷ fs) = ap (λ w. Some (error_by NS w (f ∷ fs))) (sym was)
 
 -- ## As laws
 pub branches_join : BranchesJoin
-branches_join p nodes rules es ts x i b s t c j scene h at done = joins p nodes rules es ts x i b s t c h j at done scene
+branches_join p nodes rules es ts x i b s t c j scene h at done =
+    let there = stands_in p nodes rules es ts x i b s t c h j at done t.wait refl in
+    joins p nodes rules es ts x i b s t c h j at done there.0 there.1 scene
 
 pub branch_adds : BranchAdds
 branch_adds p nodes rules es ts x i a s t c u v new h so limit = adds p nodes rules es ts x i a s t c h u so.first so.parent v new so.begins.0 limit so.begins.1
 
 pub branch_refused : BranchIsRefused
-branch_refused p nodes rules es ts x i a s t c u e new h so limit unused = refuses p nodes rules es ts x i a s t c h u so.first so.parent e new limit so.begins.1 so.begins.2.0 so.begins.0 unused
+branch_refused p nodes rules es ts x i a s t c u e new h so limit unused = refuses p nodes rules es ts x i a s t c h u so.first so.parent e new limit so.begins.1 so.begins.2 so.begins.0 unused

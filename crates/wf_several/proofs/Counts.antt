@@ -79,7 +79,7 @@ first_counts p n (ValuesLeft l) f h = by p (next_of l) refl h
         next_counts l v e ∙ ap (λ w. suc (count_of w)) s
       where
         left_is : {y : First} → Some y ≡ Some f → y.left ≡ f.left
-        left_is h = let same = cc h in ap (λ (q : First). q.left) same
+        left_is {y} h = let same : y ≡ f = cc h in ap (λ (q : First). q.left) same
 
 -- ## Its kind
 abbrev are_values : WorkLeft → Bool
@@ -94,7 +94,7 @@ first_kind p n (BranchesLeft (branch x ss bs)) f h =
 first_kind p n (ValuesLeft l) f h = by p (next_of l) h
   where
     kind_is : {y : First} → Some y ≡ Some f → are_values f.left ≡ are_values y.left
-    kind_is h = let same = cc h in sym (ap (λ (q : First). are_values q.left) same)
+    kind_is {y} h = let same : y ≡ f = cc h in sym (ap (λ (q : First). are_values q.left) same)
 
     by : (q : ParallelBody) (o : Option (Data × Left)) → first_turn q n o ≡ Some f → are_values f.left ≡ true
     by (parallel names limit (OfLoop b)) None g = absurd (cc g)
@@ -122,5 +122,5 @@ pub left_stays : (nodes : List Node) (n : ℕ) (p : ParallelBody) (k m : ℕ) (w
 left_stays nodes n p k m w v f h first left =
     let there = work_there nodes n w h in
     let same : is_loop_work w ≡ is_loop_work v =
-        sym (view_kind p k w) ∙ sym (first_kind p k (work_view p k w) f first) ∙ sym (ap are_values left) ∙ view_kind p m v in
+    sym (view_kind p k w) ∙ sym (first_kind p k (work_view p k w) f first) ∙ sym (ap are_values left) ∙ view_kind p m v in
     work_at nodes n there.0 v there.1 ∙ sym (work_kind there.0.work w v same) ∙ sym (work_at nodes n there.0 w there.1) ∙ h

@@ -2,12 +2,12 @@
 --     dropped_same      without a task, the others are as its move leaves them
 --     control_joined    the parallel step of its parent
 --     branch_gone       the branch has ended
-use Rattle.std.proofs.Common.{◌≡◌, inl, inr, ℕ, zero, suc, ◌<◌, Bool, true, false, List, [], ◌∷◌, Option, Some, None, refl, sym, ap, subst, ◌∙◌, arith}
+use Rattle.std.proofs.Common.{◌≡◌, inl, inr, ℕ, suc, ◌<◌, Bool, true, false, List, [], ◌∷◌, Option, Some, None, refl, sym, ap, subst, ◌∙◌, arith}
 use Rattle.std.specs.List.{remove}
 use Rattle.std.specs.Prelude.{if◌then◌else◌, nat_eq, option_map, slice_get, slice_set}
 use Rattle.std.proofs.lemmas.Bool.{cases_eq, eqb-true, ne_eqb}
 use Rattle.wf_ast.specs.Tree.{Program, parallel}
-use Rattle.wf_branches.proofs.Rising.{drop_at, drop_rises, found_at, put_at, set_rises, within_at}
+use Rattle.wf_branches.proofs.Rising.{drop_at, drop_rises, found_at, put_at, set_rises}
 use Rattle.wf_branches.specs.Changes as change
 use Rattle.wf_branches.specs.Changes.{joined_in, kept_in, on_join}
 use Rattle.wf_branches.specs.Steps.{error_of, join_of}
@@ -17,7 +17,6 @@ use Rattle.wf_frames.proofs.Stores.{order_closed}
 use Rattle.wf_frames.specs.Frames.{control, inner, own, owned}
 use Rattle.wf_frames.specs.Owned.{IsLinked, own_of}
 use Rattle.wf_frames.specs.Tasks.{Own}
-use Rattle.wf_frames.specs.declared.frames.Frame.{Frame}
 use Rattle.wf_model.specs.Config as model
 use Rattle.wf_model.specs.Config.{Config, Item, To, drop_in, put_in, task, task_in, with_task}
 use Rattle.wf_model.specs.Local.{End, Fails, Gives, Local, Outer}
@@ -25,7 +24,7 @@ use Rattle.wf_model.specs.RunLaws.{RisesFrom}
 use Rattle.wf_model.specs.Spots.{spots}
 use Rattle.wf_model.specs.Taken.{finish, joined, kept_error, put_back, put_outer, step_shares, without_task}
 use Rattle.wf_model.specs.declared.node.Node.{Node}
-use Rattle.wf_moves.specs.Waits.{control_in, task_local, wait_view}
+use Rattle.wf_moves.specs.Waits.{control_in, task_local}
 use Rattle.wf_moves.specs.declared.task.Task.{Task}
 use Rattle.wf_moves.specs.declared.wait.Wait.TheVariants as wait
 use Rattle.wf_scope.proofs.Kept.{find_closed}
@@ -43,8 +42,8 @@ use Rattle.wf_several.specs.Here.{IsPlace, LeavesSo, around_here, status_behind}
 use Rattle.wf_several.specs.Standing.{AllFitAt}
 use Rattle.wf_several.specs.Several.{AllGoOn, AreAlike, IsAlike, control_at, holder_of, holders_of, plain_around, task_view, tasks_view, with_join}
 use Rattle.wf_stores.proofs.Branches.{branch_ends, closed_none}
-use Rattle.wf_stores.proofs.Merging.{outer_none, outer_some, put_here, put_other}
-use Rattle.wf_stores.specs.Holders.{AllStand, Holder, HasParent, IsChildless, holder_in, with_own, without}
+use Rattle.wf_stores.proofs.Merging.{outer_none, outer_some, put_other}
+use Rattle.wf_stores.specs.Holders.{AllStand, Holder, HasParent, IsChildless, holder_in, with_own}
 use Rattle.wf_stores.specs.Steps.{parent_number}
 use Rattle.wf_value.specs.Data.{Data}
 use Rattle.wf_value.specs.Maps.{IsInOrder}
@@ -55,7 +54,7 @@ firsts_drop : (b : ℕ) (ts us : List (ℕ × model.Task)) → firsts ts ≡ fir
 firsts_drop b [] [] e = refl
 firsts_drop b [] (u ∷ us) e = absurd (cc e)
 firsts_drop b (t ∷ ts) [] e = absurd (cc e)
-firsts_drop b (t ∷ ts) (u ∷ us) e = by (nat_eq t.0 b) refl
+firsts_drop b (t ∷ ts) (u ∷ us) e = by (nat_eq t.0 b) refl (firsts_drop b ts us (cc e))
   where
     one : t.0 ≡ u.0
     one = cc e
@@ -63,13 +62,13 @@ firsts_drop b (t ∷ ts) (u ∷ us) e = by (nat_eq t.0 b) refl
     more : firsts ts ≡ firsts us
     more = cc e
 
-    by : (y : Bool) → nat_eq t.0 b ≡ y → firsts (if nat_eq t.0 b then ts else t ∷ drop_in b ts) ≡ firsts (if nat_eq u.0 b then us else u ∷ drop_in b us)
-    by true is =
+    by : (y : Bool) → nat_eq t.0 b ≡ y → firsts (drop_in b ts) ≡ firsts (drop_in b us) → firsts (if nat_eq t.0 b then ts else t ∷ drop_in b ts) ≡ firsts (if nat_eq u.0 b then us else u ∷ drop_in b us)
+    by true is later =
         ap (λ (y : Bool). firsts (if y then ts else t ∷ drop_in b ts)) is ∙ more
         ∙ sym (ap (λ (y : Bool). firsts (if y then us else u ∷ drop_in b us)) (ap (λ (n : ℕ). nat_eq n b) (sym one) ∙ is))
-    by false is =
+    by false is later =
         ap (λ (y : Bool). firsts (if y then ts else t ∷ drop_in b ts)) is
-        ∙ ap (λ (n : ℕ). n ∷ firsts (drop_in b ts)) one ∙ ap (λ ns. u.0 ∷ ns) (firsts_drop b ts us more)
+        ∙ ap (λ (n : ℕ). n ∷ firsts (drop_in b ts)) one ∙ ap (λ ns. u.0 ∷ ns) later
         ∙ sym (ap (λ (y : Bool). firsts (if y then us else u ∷ drop_in b us)) (ap (λ (n : ℕ). nat_eq n b) (sym one) ∙ is))
 
 lower_rise : (low from : ℕ) (ns : List ℕ) → low < from → Rise from ns → Rise low ns
@@ -78,11 +77,11 @@ lower_rise low from (n ∷ ns) lt r = (let first = r.0 in omega (arith, first, l
 
 rise_drop : (low b : ℕ) (ts : List (ℕ × model.Task)) → Rise low (firsts ts) → Rise low (firsts (drop_in b ts))
 rise_drop low b [] r = tt
-rise_drop low b (t ∷ ts) r = by (nat_eq t.0 b)
+rise_drop low b (t ∷ ts) r = by (nat_eq t.0 b) (rise_drop (suc t.0) b ts r.1)
   where
-    by : (y : Bool) → Rise low (firsts (if y then ts else t ∷ drop_in b ts))
-    by true = lower_rise low (suc t.0) (firsts ts) (let first = r.0 in omega (arith, first)) r.1
-    by false = (r.0, rise_drop (suc t.0) b ts r.1)
+    by : (y : Bool) → Rise (suc t.0) (firsts (drop_in b ts)) → Rise low (firsts (if y then ts else t ∷ drop_in b ts))
+    by true later = lower_rise low (suc t.0) (firsts ts) (let first = r.0 in omega (arith, first)) r.1
+    by false later = (r.0, later)
 
 drop_other : (b i : ℕ) (ts : List (ℕ × model.Task)) → (i ≡ b → ⊥) → task_in (drop_in b ts) i ≡ task_in ts i
 drop_other b i [] d = refl

@@ -3,10 +3,10 @@
 --     view_put ..       changed in the configuration
 --     last_found ..     the one with the next number
 --     holder_within     a holder's number
-use Rattle.std.proofs.Common.{◌≡◌, ℕ, zero, suc, ◌<◌, ◌≤◌, Bool, true, false, List, [], ◌∷◌, ◌++◌, Option, Some, None, refl, sym, ap, ◌∙◌, arith}
+use Rattle.std.proofs.Common.{◌≡◌, ℕ, zero, suc, ◌<◌, ◌≤◌, Bool, true, false, List, [], ◌∷◌, ◌++◌, Option, Some, None, refl, sym, ap, subst, ◌∙◌, arith}
 use Rattle.std.specs.Prelude.{if◌then◌else◌, nat_eq, nat_le, nat_lt, ◌&&◌, slice_get, slice_set}
 use Rattle.std.specs.List.{remove}
-use Rattle.std.proofs.lemmas.Bool.{and_parts, eq-eqb, eqb-true, leb-true, le-ltb, lt-ltb, ltb-true, ne_eqb}
+use Rattle.std.proofs.lemmas.Bool.{and_parts, eq-eqb, eqb-true, leb-true, le-ltb, ltb-true, ne_eqb}
 use Rattle.wf_ast.specs.Tree.{Program}
 use Rattle.wf_branches.proofs.Rising.{within_at}
 use Rattle.wf_branches.specs.Table.{Status, rise}
@@ -219,9 +219,13 @@ views_stay p made es ts x new rising alike all stays = view_again p es ts x new 
 pub stands_before : (from below i j b m : ℕ) (es : List (ℕ × Status)) (s r : Status) → rise from below es ≡ true → slice_get es i ≡ Some (b, s) → slice_get es j ≡ Some (m, r) → m < b → j < i
 stands_before from below i j b m [] s r rising h g lt = absurd (let no : None ≡ Some (b, s) = h in cc no)
 stands_before from below zero zero b m (e ∷ es) s r rising h g lt =
-    let same : (b, s) ≡ (m, r) = cc (sym h ∙ g) in
-    let one : b ≡ m = ap (λ (d : ℕ × Status). d.0) same in
-    absurd (omega (arith, one, lt))
+    absurd (apart (first (b, s) (m, r) (sym h ∙ g)) lt)
+  where
+    first : (x y : ℕ × Status) → Some x ≡ Some y → x.0 ≡ y.0
+    first x y h = let same : x ≡ y = cc h in ap (λ (d : ℕ × Status). d.0) same
+
+    apart : b ≡ m → m < b → ⊥
+    apart one lt = omega (arith, one, lt)
 stands_before from below zero (suc j) b m (e ∷ es) s r rising h g lt =
     let rest = (and_parts (nat_le from e.0 && nat_lt e.0 below) (rise (suc e.0) below es) rising).1 in
     let later = (within_at (suc e.0) below es j m r rest g).0 in

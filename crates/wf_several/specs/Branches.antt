@@ -49,7 +49,7 @@ pub record StandsHere (p : Program) (nodes : List Node) (rules : ℕ) (es : List
   pub here : IsHere es ts i b s t
   pub numbers : rise 0 c.made es ≡ true
   pub is : c.tasks ≡ tasks_view p es ts x
-  pub rules : rules ≡ c.facts.rules
+  pub its_rules : rules ≡ c.facts.rules
 
 -- what comes is a configuration of these tasks, and they go on in it
 pub record GoOnSo (p : Program) (nodes : List Node) (rules : ℕ) (c : Config) (a : After) (table : Table) (ts : List Task) (x : Scopes) : Type 0 where

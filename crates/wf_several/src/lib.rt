@@ -43,5 +43,5 @@ pub fn laws_of_branches()
     ensures adds { BranchAdds }
     ensures refused { BranchIsRefused }
     ensures gone { BranchIsGone }
-    ensures join { BranchesJoin }
+    ensures joined { BranchesJoin }
 {}
