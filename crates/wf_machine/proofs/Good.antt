@@ -272,7 +272,7 @@ here_at m g i b there =
     record { status = there.0; task = beside.0; live = there.1; is = beside.1.task }
 
 -- one beside the table
-entry_at : (p : Program) (es : List (ℕ × Status)) (ts : List Task) (i : ℕ) (t : Task) → AreAlike p es ts → slice_get ts i ≡ Some t → (e : ℕ × Status) × (slice_get es i ≡ Some e)
+pub entry_at : (p : Program) (es : List (ℕ × Status)) (ts : List Task) (i : ℕ) (t : Task) → AreAlike p es ts → slice_get ts i ≡ Some t → (e : ℕ × Status) × (slice_get es i ≡ Some e)
 entry_at p [] [] i t all is = absurd (let no : None ≡ Some t = is in cc no)
 entry_at p [] (u ∷ us) i t all is = absurd all
 entry_at p (e ∷ es) [] i t all is = absurd all

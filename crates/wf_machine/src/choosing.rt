@@ -8,7 +8,6 @@ ghost use Rattle.wf_model.specs.Step.{next};
 ghost use Rattle.wf_frames.specs.Kinds.{kind_view};
 
 use crate::machine::Machine;
-use wf_branches::tasks_are_those_of_steps;
 use wf_events::Event;
 use wf_frames::Kind;
 use wf_never_wrong::laws_of_places;
@@ -43,10 +42,8 @@ impl Machine {
         ensures steps { IfSome result (λ n. StepsBy self.now n.place n.task (kind_view n.kind)) }
         ensures chosen { IsChosen (state_of self.now).program (state_of self.now).config result }
     {
-        // laws that the proof uses
-        tasks_are_those_of_steps();
-        let from = self.tally.moves % u64::from(self.tasks.made());
-        let task = self.tasks.ready(from as u32)?;
+        let from = (self.tally.moves % u64::from(self.tasks.made())) as u32;
+        let task = self.tasks.ready(from)?;
         let Some(place) = self.tasks.place(task) else {
             unreachable!()
         };

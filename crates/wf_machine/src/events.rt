@@ -145,7 +145,11 @@ impl Machine {
             return Ok(0);
         }
         let mut count = 0;
-        while count < most && self.is_plain() {
+        while count < most {
+            if !self.is_plain() {
+                self.come_back();
+                return Ok(count);
+            }
             let goes = self.move_on()?;
             steps.tick();
             count += 1;

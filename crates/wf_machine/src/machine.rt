@@ -14,7 +14,7 @@ ghost use Rattle.wf_frames.specs.Built.{is_table_built};
 ghost use Rattle.wf_frames.specs.Kinds.{AreWants, AreWants-prop};
 ghost use Rattle.wf_model.specs.Spots.{spots};
 
-use crate::beginning::{Beginning, Live, beginning_of, live_of};
+use crate::beginning::{Beginning, beginning_of, live_of};
 use crate::ending::{Ending, Outcome};
 use crate::facts::Facts;
 use crate::log::Log;
@@ -139,18 +139,15 @@ impl Machine {
         // laws that the proof uses
         laws_of_places();
         laws_of_waits();
+        let begun = beginning_of(alloc, start, &program)?;
         let Beginning {
             targets,
             wants,
             facts,
             task,
             scopes,
-        } = beginning_of(alloc, start, &program)?;
-        let Live {
-            tasks,
-            moving,
-            ending,
-        } = live_of(alloc, task)?;
+        } = begun;
+        let live = live_of(alloc, task)?;
         Ok(Machine {
             alloc,
             program,
@@ -162,12 +159,12 @@ impl Machine {
                 moves: 0,
                 bodies: 0,
             },
-            tasks,
-            moving,
+            tasks: live.tasks,
+            moving: live.moving,
             scopes,
             calls: Calls::new(alloc),
             log: Log::new(alloc),
-            ending,
+            ending: live.ending,
             broken: false,
         })
     }

@@ -50,9 +50,14 @@ impl Machine {
         ensures some { IsTrue result → IsPlain self.now }
         ensures none { IsFalse result → IsPlain self.now → ⊥ }
     {
-        self.tally.moves + 1 < MOVE_LIMIT
-            && self.moving[0].is_awake()
-            && kind_of(&self.program, self.wants.as_slice(), &self.moving[0]) == Kind::Plain
+        let task = &self.moving[0];
+        if self.tally.moves + 1 >= MOVE_LIMIT {
+            return false;
+        }
+        if !task.is_awake() {
+            return false;
+        }
+        kind_of(&self.program, self.wants.as_slice(), task) == Kind::Plain
     }
 
     /// `main` takes its next move. It gives whether `main` goes on; else the execution has ended. Without memory the machine is only to be

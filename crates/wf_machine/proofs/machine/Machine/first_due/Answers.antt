@@ -14,7 +14,7 @@ use Rattle.wf_model.specs.Ready.{due_of, is_by}
 pub number-requires : goal.number-requires
 number-requires c =
     let m = c.args.self.now in
-    let w : c.loop-place.place < length m.moving.items = c.loop-place-test.true in
+    let w : c.loop-place.place < length m.moving.items = omega arith in
     subst (λ n. c.loop-place.place < n) (sym (as_many (program_of m.program) (table_of m.tasks).live m.moving.items (m.alike c.requires))) w
 
 pub loop-place-preserved : goal.loop-place-preserved
@@ -22,7 +22,7 @@ loop-place-preserved c =
     let m = c.args.self.now in
     let p = program_of m.program in
     let t = c.index.result.now in
-    let w : c.loop-place.place < length m.moving.items = c.loop-place-test.true in
+    let w : c.loop-place.place < length m.moving.items = omega arith in
     let there = there_at m.moving.items c.loop-place.place t w c.index.ensures in
     let e = entry_at p (table_of m.tasks).live m.moving.items c.loop-place.place t (m.alike c.requires) there in
     let next : suc c.loop-place.place ≡ c.loop-place.place + 1 = omega arith in
@@ -36,7 +36,7 @@ returns-then-is_by c =
     let m = c.args.self.now in
     let p = program_of m.program in
     let t = c.index.result.now in
-    let w : c.loop-place.place < length m.moving.items = c.loop-place-test.true in
+    let w : c.loop-place.place < length m.moving.items = omega arith in
     let there = there_at m.moving.items c.loop-place.place t w c.index.ensures in
     sym (c.loop-place.invariant
     ∙ due_here p (table_of m.tasks).live m.moving.items m.scopes (shown m) c.loop-place.place (c.number.result, c.number.ensures.0) t c.number.ensures.1 there c.args.reading
@@ -45,7 +45,6 @@ returns-then-is_by c =
 pub returns : goal.returns
 returns c =
     let m = c.args.self.now in
-    let stop = c.loop-place-test.false in
-    let le : length m.moving.items ≤ c.loop-place.place = omega (arith, stop) in
+    let le : length m.moving.items ≤ c.loop-place.place = omega arith in
     sym (c.loop-place.invariant
     ∙ ap (first_due (shown m) c.args.reading) (view_end (program_of m.program) c.loop-place.place (table_of m.tasks).live m.moving.items m.scopes le))
