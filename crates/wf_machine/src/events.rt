@@ -115,7 +115,10 @@ impl Machine {
             }
             None => match self.next_ready() {
                 Some(ready) => {
-                    count(self.take_step(ready.place, ready.task, ready.kind, last), steps)?;
+                    count(
+                        self.take_step(ready.place, ready.task, ready.kind, last),
+                        steps,
+                    )?;
                     Ok(Some(step_event(ready.kind, ready.task, last)))
                 }
                 None => Ok(None),

@@ -1,13 +1,21 @@
-use Rattle.std.proofs.Common.{◌≡◌, sym, ap, ◌∙◌}
+use Rattle.std.proofs.Common.{◌≡◌, ◌<◌, length, sym, ap, ◌∙◌, subst}
 use Rattle.std.proofs.lemmas.Option.{get_or_from_slice_get}
+use Rattle.wf_branches.specs.Seen.{table_of}
+use Rattle.wf_check.specs.Seen.{program_of}
 use Rattle.wf_machine.proofs.Answering.{dues_at}
-use Rattle.wf_machine.proofs.Good.{good_of, here_at}
+use Rattle.wf_machine.proofs.Good.{as_many, good_of, here_at}
 use Rattle.wf_machine.proofs.Moves.{not_running, runs}
 use Rattle.wf_machine.proofs.Places.{dues_gone, dues_not}
 use Rattle.wf_machine.proofs.machine.Machine.due_place.Goals as goal
 use Rattle.wf_machine.specs.Seen.{shown, wait_by}
 use Rattle.wf_model.specs.Ready.{due_of, is_by}
 use Rattle.wf_moves.specs.declared.task.Task.{Task}
+
+-- as many tasks stand beside the table as in it
+pub index-requires : goal.index-requires
+index-requires c =
+    let m = c.args.self.now in
+    subst (λ n. c.in_ok-place.place < n) (as_many (program_of m.program) (table_of m.tasks).live m.moving.items (m.alike c.requires)) c.in_ok-place.ensures.within
 
 pub returns-then-is_by-clause-some : goal.returns-then-is_by-clause-some
 returns-then-is_by-clause-some c =
