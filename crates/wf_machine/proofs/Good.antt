@@ -16,6 +16,7 @@ use Rattle.wf_branches.specs.Table.{IsAt, Join, Status}
 use Rattle.wf_check.proofs.Accepted.{accept_of}
 use Rattle.wf_check.specs.Seen.{nodes_of, program_of}
 use Rattle.wf_check.specs.declared.checked.Checked.{Checked}
+use Rattle.wf_frames.proofs.Choices.{none_is}
 use Rattle.wf_frames.proofs.Standing.{stands}
 use Rattle.wf_frames.specs.Built.{IsTableOf, is_table_built}
 use Rattle.wf_frames.specs.Frames.{control, inner}
@@ -90,10 +91,6 @@ pub record Alone (p : Program) (es : List (ℕ × Status)) (ts : List Task) (x :
   pub root : s.parent ≡ None
   pub free : s.join ≡ None
   pub only : drop_in b (tasks_view p es ts x) ≡ []
-
-none_is : {X : Type 0} (o : Option X) → is_none o ≡ true → o ≡ None
-none_is None e = refl
-none_is (Some q) e = absurd (cc e)
 
 pub alone_here : (p : Program) (es : List (ℕ × Status)) (ts : List Task) (x : Scopes) (i b : ℕ) (s : Status) → is_lone es ≡ true → slice_get es i ≡ Some (b, s) → Alone p es ts x b s
 alone_here p [] ts x i b s lone is = absurd (let no : None ≡ Some (b, s) = is in cc no)

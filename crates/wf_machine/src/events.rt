@@ -115,7 +115,10 @@ impl Machine {
             }
             None => match self.next_ready() {
                 Some(ready) => {
-                    count(self.take_step(ready.place, ready.task, ready.kind, last), steps)?;
+                    count(
+                        self.take_step(ready.place, ready.task, ready.kind, last),
+                        steps,
+                    )?;
                     Ok(Some(step_event(ready.kind, ready.task, last)))
                 }
                 None => Ok(None),
@@ -172,8 +175,10 @@ impl Machine {
             Event::Issue(task, reading) => self.apply_step(Kind::Call, *task, *reading),
             Event::Answer(call, reading, reply) => self.apply_answer(*call, *reading, reply),
             Event::Due(task, reading) => self.apply_due(*task, *reading),
-            // no branch begins, and no endpoint takes requests
-            Event::Begin(_) | Event::Arrive(_, _, _) => Err(ApplyFault::NotEnabled),
+            // no branch begins
+            Event::Begin(_) => Err(ApplyFault::NotEnabled),
+            // and no endpoint takes requests
+            Event::Arrive(_, _, _) => Err(ApplyFault::NotEnabled),
         }
     }
 }
