@@ -1,4 +1,4 @@
-use Rattle.std.proofs.Common.{◌≡◌, ◌<◌, length, sym, ap, ◌∙◌, subst}
+use Rattle.std.proofs.Common.{◌≡◌, ◌<◌, length, rules, sym, ap, ◌∙◌, subst}
 use Rattle.std.proofs.lemmas.Option.{get_or_from_slice_get}
 use Rattle.wf_branches.specs.Seen.{table_of}
 use Rattle.wf_check.specs.Seen.{program_of}
@@ -15,7 +15,8 @@ use Rattle.wf_moves.specs.declared.task.Task.{Task}
 pub index-requires : goal.index-requires
 index-requires c =
     let m = c.args.self.now in
-    subst (λ n. c.in_ok-place.place < n) (as_many (program_of m.program) (table_of m.tasks).live m.moving.items (m.alike c.requires)) c.in_ok-place.ensures.within
+    let within : c.in_ok-place.place < length m.moving.items = subst (λ n. c.in_ok-place.place < n) (as_many (program_of m.program) (table_of m.tasks).live m.moving.items (m.alike c.requires)) c.in_ok-place.ensures.within in
+    search (rules, within)
 
 pub returns-then-is_by-clause-some : goal.returns-then-is_by-clause-some
 returns-then-is_by-clause-some c =
