@@ -1,4 +1,4 @@
-use Rattle.std.proofs.Common.{◌≡◌, ℕ, Bool, true, false, Option, None, Some, refl, sym, ap, ◌∙◌}
+use Rattle.std.proofs.Common.{◌≡◌, ℕ, Bool, true, false, not, Option, None, Some, refl, sym, ap, ◌∙◌}
 use Rattle.std.specs.Prelude.{◌&&◌, is_none, is_some}
 use Rattle.wf_branches.specs.Seen.{table_of}
 use Rattle.wf_branches.specs.Table.{next_ready}
@@ -20,6 +20,13 @@ none_some : (o : Option ℕ) (z : Bool) → is_some o ≡ false → (is_none o &
 none_some None z is = refl
 none_some (Some n) z is = absurd (cc is)
 
+-- what the code tells of none
+none_by : (o : Option ℕ) (w : Bool) → is_some o ≡ not w → w ≡ is_none o
+none_by None true is = refl
+none_by None false is = absurd (cc is)
+none_by (Some n) true is = absurd (cc is)
+none_by (Some n) false is = refl
+
 pub returns-then-self : goal.returns-then-self
 returns-then-self c =
     let m = c.args.self.now in
@@ -37,7 +44,7 @@ pub returns : goal.returns
 returns c =
     let m = c.args.self.now in
     let whole = c.if-self.false in
-    c.is_none.ensures ∙ ap is_none c.first_due.ensures
+    none_by c.first_due.result c.is_none.result c.is_none.ensures ∙ ap is_none c.first_due.ensures
     ∙ sym (none_some (next_ready 0 (table_of m.tasks).live) (is_none (first_due (shown m) c.args.reading (shown m).tasks)) (sym (ap is_some c.ready.ensures) ∙ sym c.is_some.ensures ∙ c.if-is_some.false))
     ∙ quiet_is (program_of m.program) (table_of m.tasks).live m.moving.items m.scopes (shown m) c.args.reading (m.alike whole) (m.lone whole)
     ∙ sym (ap (λ (d : Config). quiet d c.args.reading) (shows_it m whole))

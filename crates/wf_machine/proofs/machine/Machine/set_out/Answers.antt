@@ -25,13 +25,13 @@ pub returns-then-not-is_running-clause-ended : goal.returns-then-not-is_running-
 returns-then-not-is_running-clause-ended c = λ no reading. no_more_ended c.args.self.now (sym c.is_running.ensures ∙ c.if-not-is_running.true) reading
 
 pub returns-then-len-ne1-clause-ended : goal.returns-then-len-ne1-clause-ended
-returns-then-len-ne1-clause-ended c = λ no reading. no_more_many c.args.self.now c.requires (λ one. let many = c.if-len-ne1.true in omega (arith, one, many)) reading
+returns-then-len-ne1-clause-ended c = λ no reading. no_more_many c.args.self.now c.requires.whole (λ one. let many = c.if-len-ne1.true in omega (arith, one, many)) reading
 
 pub returns-clause-out : goal.returns-clause-out
 returns-clause-out c = λ yes_.
     let m = c.args.self.now in
     let run = runs m.ending (sym c.is_running.ensures ∙ c.if-not-is_running.false) in
-    let good = good_of m c.requires run in
+    let good = good_of m c.requires.whole run in
     let one = c.if-len-ne1.false in
     record {
       broken = refl;
@@ -40,7 +40,7 @@ returns-clause-out c = λ yes_.
       stood = good.stood;
       lone = good.lone;
       one = omega (arith, one);
-      below = m.running c.requires run;
+      below = m.running c.requires.whole run;
       now = refl;
       last = refl;
       deeper = refl;
@@ -49,4 +49,4 @@ returns-clause-out c = λ yes_.
     }
 
 pub returns-clause-shown : goal.returns-clause-shown
-returns-clause-shown c = λ yes_. sym (shows_it c.args.self.now c.requires)
+returns-clause-shown c = λ yes_. sym (shows_it c.args.self.now c.requires.whole)
