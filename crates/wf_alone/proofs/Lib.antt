@@ -1,8 +1,2 @@
--- The lemmas of an execution in which `main` is the only task.
+-- The lemmas of an execution that begins.
 pub mod Begun
-pub mod Carried
-pub mod Off
-pub mod Reached
-pub mod Plain
-pub mod Steps
-pub mod Waiting

@@ -1,5 +1,3 @@
--- The definitions of an execution in which `main` is the only task.
+-- The definitions of an execution that begins.
 pub mod Machine
-pub mod Waiting
-pub mod Plain
 pub mod Laws

@@ -2,6 +2,7 @@
 pub mod Applied
 pub mod Causes
 pub mod Counts
+pub mod Dues
 pub mod Entries
 pub mod Facts
 pub mod Laws
@@ -10,6 +11,7 @@ pub mod Log
 pub mod Main
 pub mod Outcome
 pub mod Promises
+pub mod Ready
 pub mod Runs
 pub mod Seen
 pub mod State

@@ -1,8 +1,8 @@
--- Where `main` stands, by its frames, the store of its layers and what it waits for.
---     around        what stands around it
+-- Where a machine stands, by the frames of its tasks, the store of their layers and what they wait for.
+--     around        what stands around `main`
 --     config_of     the configuration
---     IsStanding    its frames and layers fit the program's table, and it has something to do or waits, in no parallel step
-use Rattle.std.specs.Prelude.{◌≡◌, ℕ, Bool, true, false, List, [], ◌∷◌, ◌++◌, None, Some, Option, is_some, option_map, slice_get}
+--     HasStood ..   where it stands
+use Rattle.std.specs.Prelude.{◌≡◌, ℕ, Bool, true, false, ◌&&◌, nat_eq, is_none, List, [], ◌∷◌, ◌++◌, None, Some, Option, is_some, option_map, slice_get}
 use Rattle.std.specs.Coded.{Coded-set, codes, coded_bool, ×_prop, Unit-prop, Π_prop, →_prop}
 use Rattle.wf_ast.specs.Flows.{flow}
 use Rattle.wf_ast.specs.Func.{SpecialListing, SysLog, func_named, special_named}
@@ -11,18 +11,26 @@ use Rattle.wf_ast.specs.declared.policy.Policy.{Policy}
 use Rattle.wf_ast.specs.declared.policy.Predicate.TheVariants as predicate
 use Rattle.wf_callbacks.specs.Plain.{plain_method}
 use Rattle.wf_callbacks.specs.declared.method.Method.{Method}
-use Rattle.wf_frames.specs.Owned.{Around, control_of, own_of}
-use Rattle.wf_frames.specs.Standing.{Standing, Standing-prop}
+use Rattle.wf_frames.specs.Owned.{Around, control_of}
+use Rattle.wf_frames.specs.Standing.{Standing}
 use Rattle.wf_http_ask.specs.View.{request_view}
 use Rattle.wf_machine.specs.Facts.{facts_view}
 use Rattle.wf_machine.specs.Entries.{entries_of}
 use Rattle.wf_machine.specs.Log.{logged_at}
 use Rattle.wf_machine.specs.State.{outcome_by}
 use Rattle.wf_machine.specs.declared.ending.Ending.{Ending}
+use Rattle.wf_machine.specs.declared.ending.Ending.TheVariants as ending
+use Rattle.wf_value.specs.declared.value.Value.TheVariants as value
 use Rattle.wf_machine.specs.declared.facts.Facts.{Facts}
 use Rattle.wf_machine.specs.declared.log.Log.{Log}
 use Rattle.wf_machine.specs.declared.machine.Tally.{Tally}
-use Rattle.wf_alone.specs.Machine.{Rest, config_by, main_task}
+use Rattle.wf_branches.specs.Changes.{new_table}
+use Rattle.wf_branches.specs.Seen.{table_of}
+use Rattle.wf_branches.specs.Table.{Status, Table}
+use Rattle.wf_branches.specs.declared.tasks.Tasks.{Tasks}
+use Rattle.wf_model.specs.WaitLaws.{Sound}
+use Rattle.wf_never_wrong.specs.Stands.{Stands}
+use Rattle.wf_several.specs.Several.{tasks_view}
 use Rattle.wf_model.specs.Calls.{http_method}
 use Rattle.wf_model.specs.Config as model
 use Rattle.wf_model.specs.Config.{Active, Call, Config, Do, Item, LogEntry, Open, Outcome, Raised, Returned, limits}
@@ -123,32 +131,49 @@ pub record Says (fs : List Flow) (ns : List Spot) (x : Node) (t : Target) : Type
   pub ask : (y : TryNode) (p : Policy) (f : Text) → x.kind ≡ kind.Try y → y.policy ≡ Some p → p.predicate ≡ predicate.Flow f → IsAsked fs ns (Some t) f
 
 -- ## The configuration
--- what it has beside its tasks and its outcome
-abbrev pub rest_of : Facts → Tally → List Call → List LogEntry → Rest
-rest_of f y calls log = record { facts = facts_view f; last = y.last; calls = calls; log = log; moves = y.moves; bodies = y.bodies }
+-- a broken machine shows no tasks
+abbrev pub shown_tasks : Bool → Program → List (ℕ × Status) → List Task → Scopes → List (ℕ × model.Task)
+shown_tasks true p es ts x = []
+shown_tasks false p es ts x = tasks_view p es ts x
+
+abbrev pub config_of : Bool → Program → Facts → Tally → Table → List Task → Scopes → List Call → Log → Ending → Config
+config_of broken p f y tb ts x calls log e = record {
+  facts = facts_view f;
+  tasks = shown_tasks broken p tb.live ts x;
+  made = tb.made;
+  calls = calls;
+  endpoints = [];
+  log = entries_of log;
+  moves = y.moves;
+  bodies = y.bodies;
+  last = y.last;
+  outcome = outcome_by e;
+}
 
 -- what a task has still to do
 abbrev pub task_control : Program → Task → List Item
 task_control p t = control_in (spots p.flows) t.wait (control_of (around p) t.frames)
 
-abbrev pub task_view : Program → Task → Scopes → model.Task
-task_view p t x = main_task (task_control p t) (own_layers (own_of t.frames) (layers_of x)) (wait_view (around p) t.wait)
-
-abbrev pub tasks_view : Program → Option Task → Scopes → List (ℕ × model.Task)
-tasks_view p None x = []
-tasks_view p (Some t) x = (0, task_view p t x) ∷ []
-
-abbrev pub config_of : Program → Facts → Tally → Option Task → Scopes → List Call → Log → Ending → Config
-config_of p f y t x calls log e = config_by (rest_of f y calls (entries_of log)) (tasks_view p t x) (outcome_by e)
-
 -- ## Where it stands
-abbrev pub IsStanding : Program → List Node → Option Task → Scopes → Type 0
-IsStanding p nodes None x = Unit {0}
-IsStanding p nodes (Some t) x = Standing (around p) nodes t.frames x × (CanGoOn nodes t × (is_joining t.wait ≡ false))
+-- `main` alone is live, in no parallel step, or no task is; so far no branch begins
+abbrev pub is_lone : List (ℕ × Status) → Bool
+is_lone [] = true
+is_lone (e ∷ []) = nat_eq e.0 0 && (is_none e.1.parent && is_none e.1.join)
+is_lone (e ∷ f ∷ es) = false
 
-pub IsStanding-prop : (p : Program) (nodes : List Node) (t : Option Task) (x : Scopes) → IsProp (IsStanding p nodes t x)
-IsStanding-prop p nodes None x = Unit-prop
-IsStanding-prop p nodes (Some t) x = ×_prop (Standing-prop _ _ _ _) (×_prop (CanGoOn-prop nodes t) (Coded-set coded_bool _ _))
+-- all live tasks stand where an accepted program has places for them, and their calls are awaited
+abbrev pub HasStood : Program → Config → Type 0
+HasStood p c = Stands p c × Sound c
+
+-- `main` where it begins
+abbrev pub IsStandingFirst : Program → List Node → Option Task → Scopes → Type 0
+IsStandingFirst p nodes None x = Unit {0}
+IsStandingFirst p nodes (Some t) x = Standing (around p) nodes t.frames x × CanGoOn nodes t
+
+-- and which tasks are live then, with the ending
+abbrev pub Lives : Option Task → Tasks → List Task → Ending → Type 0
+Lives None tb ts e = (table_of tb ≡ record new_table { live = [] }) × (ts ≡ []) × (e ≡ ending.Returned value.Null)
+Lives (Some t) tb ts e = (table_of tb ≡ new_table) × (ts ≡ t ∷ []) × (e ≡ ending.Running)
 
 -- ## Where it begins, and what it leaves
 -- before the steps of `main`, settled
@@ -180,9 +205,9 @@ abbrev pub is_forked : Option Told → Bool
 is_forked (Some (told.Forked f)) = true
 is_forked m = false
 
-abbrev pub calls_behind : Option Told → List Call → List Call
-calls_behind (Some (told.Sent x)) calls = calls ++ Open 0 (request_view x.value.request) x.value.due ∷ []
-calls_behind m calls = calls
+abbrev pub calls_behind : ℕ → Option Told → List Call → List Call
+calls_behind b (Some (told.Sent x)) calls = calls ++ Open b (request_view x.value.request) x.value.due ∷ []
+calls_behind b m calls = calls
 
 abbrev pub log_behind : ℕ → Option Told → List LogEntry → List LogEntry
 log_behind reading (Some (told.Logged x w)) log = log ++ logged_at reading x.value ∷ []

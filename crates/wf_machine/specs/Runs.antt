@@ -1,14 +1,15 @@
 -- Moves that follow one another.
 --     AreMoves, AppliesMoves     so many moves, as events and as steps
 --     NoMoreMoves                none of them comes next
---     IsOut ..                   a machine while its `main` is out of it, for a run of moves
-use Rattle.std.specs.Prelude.{◌≡◌, ◌≤◌, ◌<◌, ◌+◌, ℕ, zero, suc, Bool, true, false, None, Some, length}
-use Rattle.wf_alone.specs.Machine.{IsReached}
+--     IsOut ..                   a machine while a run of moves goes on
+use Rattle.std.specs.Prelude.{◌≡◌, ◌≤◌, ◌<◌, ◌+◌, ℕ, zero, suc, Bool, true, false, Some, length, slice_get}
+use Rattle.wf_branches.specs.Seen.{table_of}
+use Rattle.wf_several.specs.Standing.{IsStanding}
 use Rattle.wf_ast.specs.Tree.{Program}
 use Rattle.wf_check.specs.Seen.{nodes_of, program_of}
 use Rattle.wf_machine.specs.Entries.{entries_of}
-use Rattle.wf_machine.specs.Main.{IsStanding, config_of}
-use Rattle.wf_machine.specs.Seen.{control_by, state_of}
+use Rattle.wf_machine.specs.Main.{HasStood, is_lone}
+use Rattle.wf_machine.specs.Seen.{control_by, shown, state_of}
 use Rattle.wf_machine.specs.State.{State}
 use Rattle.wf_machine.specs.declared.ending.Ending.TheVariants.{Running}
 use Rattle.wf_machine.specs.declared.machine.Machine.{Machine}
@@ -45,24 +46,15 @@ pub record AppliesMoves (before behind : State) (reading count old new : ℕ) : 
 abbrev pub NoMoreMoves : State → ℕ → Type 0
 NoMoreMoves s reading = length s.config.tasks ≡ 1 → choose s.program s.config reading ≡ Some (Move 0) → 100000 ≤ s.config.moves + 1
 
--- ## While `main` is out
--- what a machine shows with this task in its place
-abbrev pub shown : Machine → Task → Config
-shown m t = config_of (program_of m.program) m.facts m.tally (Some t) m.scopes m.calls m.log m.ending
-
--- what it shows with the task in its place where `main` goes on, and else as it is
-abbrev pub shown_by : Bool → Machine → Task → Config
-shown_by true m t = shown m t
-shown_by false m t = (state_of m).config
-
--- this task is out of a machine that runs, where it has been reached; the machine counts as broken so long, and its facts are those of a step
--- that reads no clock
-pub record IsOut (m : Machine) (t : Task) : Type 0 where
-  pub gone : m.task ≡ None
+-- ## While a run of moves goes on
+-- where a run of moves goes on the machine counts as broken so long, and its facts are those of a step that reads no clock
+pub record IsOut (m : Machine) : Type 0 where
   pub broken : m.broken ≡ true
   pub running : m.ending ≡ Running
-  pub standing : IsStanding (program_of m.program) (nodes_of m.program) (Some t) m.scopes
-  pub reached : ∥ IsReached (program_of m.program) (shown m t) ∥₁
+  pub standing : IsStanding (program_of m.program) (nodes_of m.program) (table_of m.tasks).live m.moving.items m.scopes
+  pub stood : ∥ HasStood (program_of m.program) (shown m) ∥₁
+  pub lone : is_lone (table_of m.tasks).live ≡ true
+  pub one : length m.moving.items ≡ 1
   pub below : m.tally.moves < 100000
   pub now : m.facts.of_step.now ≡ 0
   pub last : m.facts.of_step.last ≡ m.tally.last
@@ -70,8 +62,15 @@ pub record IsOut (m : Machine) (t : Task) : Type 0 where
   pub calls : m.facts.sending.calls ≡ length m.calls
   pub logged : m.facts.sending.logged ≡ log_total (entries_of m.log)
 
+-- what it shows where `main` goes on, and else as it is
+abbrev pub shown_by : Bool → Machine → Config
+shown_by true m = shown m
+shown_by false m = (state_of m).config
+
 -- its next move reads no clock, and is carried out
-pub record IsPlain (m : Machine) (t : Task) : Type 0 where
-  pub awake : is_awake_in t.wait ≡ true
-  pub wanted : next_kind (program_of m.program) (control_by m t) ≡ Plainly
+pub record IsPlain (m : Machine) : Type 0 where
+  pub task : Task
+  pub is : slice_get m.moving.items 0 ≡ Some task
+  pub awake : is_awake_in task.wait ≡ true
+  pub wanted : next_kind (program_of m.program) (control_by m task) ≡ Plainly
   pub few : m.tally.moves + 1 < 100000

@@ -5,22 +5,24 @@ ghost use Rattle.wf_ast.specs.Tree.{Program};
 ghost use Rattle.wf_check.specs.Seen.{nodes_of, program_of};
 ghost use Rattle.wf_events.specs.View.{start_view};
 ghost use Rattle.wf_machine.specs.Facts.{facts_of, facts_view};
-ghost use Rattle.wf_machine.specs.Main.{Aims, Begins, IsStanding};
+ghost use Rattle.wf_machine.specs.Main.{Aims, Begins, IsStandingFirst, Lives};
 ghost use Rattle.wf_frames.specs.Built.{AreTargets, IsTableOf, is_table_built};
 ghost use Rattle.wf_frames.specs.Kinds.{AreWants};
 ghost use Rattle.wf_model.specs.Spots.{spots};
 
 use crate::argument::argument_of;
+use crate::ending::Ending;
 use crate::facts::Facts;
 use crate::targets::targets_of;
 use crate::task::first_task;
 use std::alloc::Global;
+use wf_branches::Tasks;
 use wf_check::Checked;
 use wf_events::Start;
 use wf_frames::{Target, Wants, are_built};
 use wf_moves::Task;
 use wf_scope::Scopes;
-use wf_value::OutOfMemory;
+use wf_value::{OutOfMemory, Value};
 use wf_wants::wants_of;
 
 /// What all variables together may come to, under the first rules.
@@ -35,6 +37,40 @@ pub(crate) struct Beginning {
     pub(crate) facts: Facts,
     pub(crate) task: Option<Task>,
     pub(crate) scopes: Scopes,
+}
+
+/// The live tasks of an execution that begins, with what they have still to do, and its ending if it has one.
+#[derive(Drop)]
+pub(crate) struct Live {
+    pub(crate) tasks: Tasks,
+    pub(crate) moving: Vec<Task>,
+    pub(crate) ending: Ending,
+}
+
+/// `main` alone is live; where it has no steps no task is, and it has returned null.
+pub(crate) fn live_of(alloc: Global, task: Option<Task>) -> Result<Live, OutOfMemory>
+    ensures { IfOk result (λ l. Lives task l.tasks l.moving.items l.ending) }
+{
+    let mut tasks = Tasks::new(alloc)?;
+    let mut moving = Vec::new(alloc);
+    match task {
+        Some(task) => {
+            moving.push(task)?;
+            Ok(Live {
+                tasks,
+                moving,
+                ending: Ending::Running,
+            })
+        }
+        None => {
+            tasks.clear();
+            Ok(Live {
+                tasks,
+                moving,
+                ending: Ending::Returned(Value::Null),
+            })
+        }
+    }
 }
 
 /// What each node of a program wants.
@@ -62,7 +98,7 @@ pub(crate) fn beginning_of(
     ensures facts { IfOk result (λ b. facts_view b.facts ≡ facts_of (start_view start.now)) }
     ensures begins { IfOk result (λ b. Begins (program_of program.now)
         (argument_of (start_view start.now)) b.task b.scopes) }
-    ensures standing { IfOk result (λ b. IsStanding (program_of program.now)
+    ensures standing { IfOk result (λ b. IsStandingFirst (program_of program.now)
         (nodes_of program.now) b.task b.scopes) }
 {
     let nodes = program.nodes();

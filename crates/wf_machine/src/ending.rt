@@ -62,6 +62,7 @@ fn ending_by(end: End) -> Ending
 /// the checker accepts none.
 #[inline(always)]
 pub(crate) fn ending_of(
+    task: u32,
     did: Move,
     reading: u64,
     calls: &mut Calls,
@@ -72,13 +73,13 @@ pub(crate) fn ending_of(
         ≡ outcome_behind (told_in did)) }
     ensures ended { IfOk result (λ e. IfSome e (λ e. is_running e ≡ false)) }
     ensures unforked { OnOk result (is_forked (told_in did) ≡ false) }
-    ensures calls { OnOk result (calls.new ≡ calls_behind (told_in did) calls.old) }
+    ensures calls { OnOk result (calls.new ≡ calls_behind task (told_in did) calls.old) }
     ensures log { OnOk result (entries_of log.new
         ≡ log_behind reading (told_in did) (entries_of log.old)) }
 {
     match did {
         Move::Went => Ok(None),
-        Move::Told(told) => ending_behind(Box::into_inner(told), reading, calls, log),
+        Move::Told(told) => ending_behind(task, Box::into_inner(told), reading, calls, log),
     }
 }
 
@@ -87,6 +88,7 @@ pub(crate) fn ending_of(
 #[cold]
 #[inline(never)]
 fn ending_behind(
+    task: u32,
     told: Told,
     reading: u64,
     calls: &mut Calls,
@@ -97,7 +99,7 @@ fn ending_behind(
         ≡ outcome_behind (Some told)) }
     ensures ended { IfOk result (λ e. IfSome e (λ e. is_running e ≡ false)) }
     ensures unforked { OnOk result (is_forked (Some told) ≡ false) }
-    ensures calls { OnOk result (calls.new ≡ calls_behind (Some told) calls.old) }
+    ensures calls { OnOk result (calls.new ≡ calls_behind task (Some told) calls.old) }
     ensures log { OnOk result (entries_of log.new
         ≡ log_behind reading (Some told) (entries_of log.old)) }
 {
@@ -105,7 +107,7 @@ fn ending_behind(
         Told::Ended(end) => Ok(Some(ending_by(end))),
         Told::Sent(sent) => {
             let sent = Box::into_inner(sent);
-            calls.send(0, sent.request, sent.due)?;
+            calls.send(task, sent.request, sent.due)?;
             Ok(None)
         }
         Told::Logged(logged, behind) => {

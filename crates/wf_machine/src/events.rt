@@ -12,10 +12,9 @@ use crate::choosing::step_event;
 use crate::machine::Machine;
 use crate::steps::Steps;
 use std::sync::ledger::Ledger;
-use wf_alone::laws_of_waiting;
 use wf_events::Event;
 use wf_frames::Kind;
-use wf_never_wrong::never_wrong;
+use wf_never_wrong::laws_of_places;
 use wf_value::OutOfMemory;
 
 /// An event that wasn't applied.
@@ -72,8 +71,8 @@ impl Machine {
         ensures { AppliesAnEvent (state_of self.old) (state_of self.new) (event_view event.now)
             steps.old steps.new result }
     {
-        // a law that the proof uses
-        never_wrong();
+        // laws that the proof uses
+        laws_of_places();
         if self.broken {
             return Err(ApplyFault::OutOfMemory);
         }
@@ -104,18 +103,23 @@ impl Machine {
         ensures broken { OnErr result ((state_of self.new).broken ≡ true) }
     {
         // laws that the proof uses
-        never_wrong();
-        laws_of_waiting();
+        laws_of_places();
+        if !self.ending.is_running() {
+            return Ok(None);
+        }
         let last = reading.max(self.tally.last);
-        match self.wanted_kind() {
-            Some(kind) => {
-                count(self.take_step(kind, last), steps)?;
-                Ok(Some(step_event(kind, last)))
+        match self.first_due(reading) {
+            Some(task) => {
+                count(self.apply_due(task, last), steps)?;
+                Ok(Some(Event::Due(task, last)))
             }
-            None => match self.due_wait(reading) {
-                Some(_) => {
-                    count(self.apply_due(0, last), steps)?;
-                    Ok(Some(Event::Due(0, last)))
+            None => match self.next_ready() {
+                Some(ready) => {
+                    count(
+                        self.take_step(ready.place, ready.task, ready.kind, last),
+                        steps,
+                    )?;
+                    Ok(Some(step_event(ready.kind, ready.task, last)))
                 }
                 None => Ok(None),
             },
@@ -140,19 +144,23 @@ impl Machine {
         ensures goes_on { IfOk result (λ count. count < most → NoMoreMoves (state_of self.new) reading) }
         ensures broken { OnErr result ((state_of self.new).broken ≡ true) }
     {
-        let Some(mut task) = self.take_out() else {
+        if !self.set_out() {
             return Ok(0);
-        };
+        }
         let mut count = 0;
-        while count < most && self.is_plain(&task) {
-            let goes = self.move_on(&mut task)?;
+        while count < most {
+            if !self.is_plain() {
+                self.come_back();
+                return Ok(count);
+            }
+            let goes = self.move_on()?;
             steps.tick();
             count += 1;
             if !goes {
                 return Ok(count);
             }
         }
-        self.put_back(task);
+        self.come_back();
         Ok(count)
     }
 
@@ -167,8 +175,10 @@ impl Machine {
             Event::Issue(task, reading) => self.apply_step(Kind::Call, *task, *reading),
             Event::Answer(call, reading, reply) => self.apply_answer(*call, *reading, reply),
             Event::Due(task, reading) => self.apply_due(*task, *reading),
-            // no branch begins, and no endpoint takes requests
-            Event::Begin(_) | Event::Arrive(_, _, _) => Err(ApplyFault::NotEnabled),
+            // no branch begins
+            Event::Begin(_) => Err(ApplyFault::NotEnabled),
+            // and no endpoint takes requests
+            Event::Arrive(_, _, _) => Err(ApplyFault::NotEnabled),
         }
     }
 }

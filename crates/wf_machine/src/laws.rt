@@ -4,8 +4,8 @@ ghost use Rattle.wf_machine.specs.Laws.{AnswersLead, IsSound};
 ghost use Rattle.wf_machine.specs.Seen.{state_of};
 
 use crate::machine::Machine;
-use wf_alone::laws_of_waiting;
-use wf_never_wrong::never_wrong;
+use wf_model::laws_of_waits;
+use wf_never_wrong::laws_of_places;
 
 /// Carries that an answer can come. Until the execution has ended, each answer to an open call can be applied, whatever it says, at each
 /// reading that isn't below the last one.
@@ -14,8 +14,8 @@ pub fn answers_lead(machine: &Machine)
     ensures { AnswersLead (state_of machine.now) }
 {
     // laws that the proof uses
-    laws_of_waiting();
-    never_wrong();
+    laws_of_waits();
+    laws_of_places();
     let _ = machine;
 }
 
@@ -25,7 +25,5 @@ pub fn is_sound(machine: &Machine)
     requires { (state_of machine.now).broken ≡ false }
     ensures { IsSound (state_of machine.now) }
 {
-    // laws that the proof uses
-    laws_of_waiting();
     let _ = machine;
 }

@@ -1,29 +1,36 @@
 // The machine: an execution of a program, as it stands between two events.
 ghost use Rattle.std.specs.Prelude.{◌≡◌, ◌≤◌, ◌<◌, true, false, is_some, IfOk};
-ghost use Rattle.wf_alone.specs.Machine.{IsReached};
+ghost use Rattle.std.specs.Coded.{→_prop};
+ghost use Rattle.wf_branches.specs.Seen.{table_of};
+ghost use Rattle.wf_several.specs.Several.{AreAlike};
+ghost use Rattle.wf_several.specs.Standing.{AreAlike-prop, IsStanding, IsStanding-prop};
 ghost use Rattle.wf_ast.specs.View.{program_view};
 ghost use Rattle.wf_check.specs.Seen.{nodes_of, program_of};
-ghost use Rattle.wf_machine.specs.Main.{Aims, Aims-prop, IsStanding, IsStanding-prop, config_of};
+ghost use Rattle.wf_machine.specs.Dues.{sooner};
+ghost use Rattle.wf_machine.specs.Main.{Aims, Aims-prop, HasStood, config_of, is_lone};
 ghost use Rattle.wf_machine.specs.State.{outcome_by, outcome_depth};
 ghost use Rattle.wf_machine.specs.declared.ending.Ending.TheVariants.{Running};
 ghost use Rattle.wf_frames.specs.Built.{is_table_built};
 ghost use Rattle.wf_frames.specs.Kinds.{AreWants, AreWants-prop};
 ghost use Rattle.wf_model.specs.Spots.{spots};
 
-use crate::beginning::beginning_of;
+use crate::beginning::{Beginning, beginning_of, live_of};
 use crate::ending::{Ending, Outcome};
 use crate::facts::Facts;
 use crate::log::Log;
 use std::alloc::Global;
-use wf_alone::laws_of_waiting;
 use wf_ast::Program;
+use wf_branches::Tasks;
 use wf_calls::{Calls, numbers_are_those_of_steps};
 use wf_check::Checked;
 use wf_events::Start;
 use wf_frames::{Target, Wants};
 use wf_http_ask::Request;
+use wf_model::laws_of_waits;
 use wf_moves::Task;
+use wf_never_wrong::laws_of_places;
 use wf_scope::Scopes;
+use wf_together::laws_of_joins;
 use wf_value::{OutOfMemory, Severity, Value};
 
 /// What events count: the last reading of the clock, in milliseconds since 1970; the counted events; and the bytes of the bodies of all
@@ -37,8 +44,8 @@ pub(crate) struct Tally {
 
 /// An execution of a program, as it stands between two events.
 ///
-/// It holds the program with its table, what it was started with, what `main` has still to do and what it waits for, the layers of its
-/// variables, the calls, what was logged, the count of events, the sum of bodies, the last reading, and its outcome. It never counts more than 100,000
+/// It holds the program with its table, what it was started with, its live tasks with what they have still to do and what they wait for, the layers of
+/// their variables, the calls, what was logged, the count of events, the sum of bodies, the last reading, and its outcome. It never counts more than 100,000
 /// events and 67,108,864 bytes of bodies, and its outcome nests at most 100 deep.
 pub struct Machine {
     pub(crate) alloc: Global,
@@ -49,8 +56,10 @@ pub struct Machine {
     pub(crate) wants: Vec<Wants>,
     pub(crate) facts: Facts,
     pub(crate) tally: Tally,
-    /// `main`, until it has ended.
-    pub(crate) task: Option<Task>,
+    /// The live tasks by rising number, and what they wait for; none once `main` has ended.
+    pub(crate) tasks: Tasks,
+    /// Their frames, in the same order.
+    pub(crate) moving: Vec<Task>,
     pub(crate) scopes: Scopes,
     pub(crate) calls: Calls,
     pub(crate) log: Log,
@@ -59,10 +68,13 @@ pub struct Machine {
     ghost built: { is_table_built (nodes_of program) ≡ true },
     ghost aims: { Aims (program_of program) (nodes_of program) targets.items } by { Aims-prop _ _ _ },
     ghost wanted: { AreWants (program_of program) (spots (program_of program).flows) (nodes_of program) wants.items } by { AreWants-prop _ _ _ _ },
-    ghost standing: { IsStanding (program_of program) (nodes_of program) task scopes } by { IsStanding-prop _ _ _ _ },
-    ghost reached: { ∥ (is_some task ≡ true → IsReached (program_of program)
-        (config_of (program_of program) facts tally task scopes calls log ending)) ∥₁ },
-    ghost running: { broken ≡ false → ending ≡ Running → (is_some task ≡ true) × (tally.moves < 100000) },
+    ghost alike: { broken ≡ false → AreAlike (program_of program) (table_of tasks).live moving.items } by { →_prop (AreAlike-prop _ _ _) },
+    ghost standing: { broken ≡ false → ending ≡ Running → IsStanding (program_of program) (nodes_of program)
+        (table_of tasks).live moving.items scopes } by { →_prop (→_prop (IsStanding-prop _ _ _ _ _)) },
+    ghost stood: { ∥ (broken ≡ false → ending ≡ Running → HasStood (program_of program)
+        (config_of false (program_of program) facts tally (table_of tasks) moving.items scopes calls log ending)) ∥₁ },
+    ghost lone: { broken ≡ false → is_lone (table_of tasks).live ≡ true },
+    ghost running: { broken ≡ false → ending ≡ Running → tally.moves < 100000 },
     ghost shallow: { outcome_depth (outcome_by ending) ≤ 100 },
     ghost most: { tally.moves ≤ 100000 },
     ghost bounded: { tally.bodies ≤ 67108864 },
@@ -78,13 +90,25 @@ impl Drop for Machine {
             wants: _,
             facts: _,
             tally: _,
-            task: _,
+            tasks: _,
+            moving: _,
             scopes: _,
             calls: _,
             log: _,
             ending: _,
             broken: _,
         } = self;
+    }
+}
+
+/// The earlier of two moments that may be there.
+fn earlier(one: Option<u64>, other: Option<u64>) -> Option<u64>
+    ensures { result ≡ sooner one other }
+{
+    match (one, other) {
+        (Some(one), Some(other)) => Some(one.min(other)),
+        (Some(one), None) => Some(one),
+        (None, other) => other,
     }
 }
 
@@ -112,28 +136,35 @@ impl Machine {
             ≡ To (state_of m).config) }
         ensures whole { IfOk result (λ m. (state_of m).broken ≡ false) }
     {
+        // laws that the proof uses
+        laws_of_places();
+        laws_of_waits();
         let begun = beginning_of(alloc, start, &program)?;
-        let ending = if begun.task.is_some() {
-            Ending::Running
-        } else {
-            Ending::Returned(Value::Null)
-        };
+        let Beginning {
+            targets,
+            wants,
+            facts,
+            task,
+            scopes,
+        } = begun;
+        let live = live_of(alloc, task)?;
         Ok(Machine {
             alloc,
             program,
-            targets: begun.targets,
-            wants: begun.wants,
-            facts: begun.facts,
+            targets,
+            wants,
+            facts,
             tally: Tally {
                 last: start.reading,
                 moves: 0,
                 bodies: 0,
             },
-            task: begun.task,
-            scopes: begun.scopes,
+            tasks: live.tasks,
+            moving: live.moving,
+            scopes,
             calls: Calls::new(alloc),
             log: Log::new(alloc),
-            ending,
+            ending: live.ending,
             broken: false,
         })
     }
@@ -145,17 +176,20 @@ impl Machine {
         self.program.program()
     }
 
-    /// Whether `main` can't go on at the reading, in milliseconds since 1970: it has ended, or waits for what is due later.
+    /// Whether no task can go on at the reading, in milliseconds since 1970: the execution has ended, or all wait for what is due later.
     pub fn is_quiet(&self, reading: u64) -> bool
         ensures { result ≡ quiet (state_of self.now).config reading }
     {
-        match &self.task {
-            None => true,
-            Some(task) => self.is_still(task, reading),
+        if self.broken {
+            return true;
         }
+        if self.tasks.ready(0).is_some() {
+            return false;
+        }
+        self.first_due(reading).is_none()
     }
 
-    /// The least moment at which something is due, in milliseconds since 1970: that at which what `main` waits for ends.
+    /// The least moment at which something is due, in milliseconds since 1970: that at which what a task waits for ends.
     pub fn least_due(&self) -> Option<u64>
         ensures due { result ≡ least_due (state_of self.now).config }
         // Where nothing can move something is due.
@@ -164,11 +198,16 @@ impl Machine {
             → (r : ℕ) → IsTrue (quiet (state_of self.now).config r) → IsSome result }
     {
         // laws that the proof uses
-        laws_of_waiting();
-        match &self.task {
-            None => None,
-            Some(task) => self.due_of(task),
+        laws_of_waits();
+        laws_of_joins();
+        if self.broken {
+            return None;
         }
+        let mut least = None;
+        for place in 0..self.moving.len() {
+            least = earlier(least, self.due_of(&self.moving[place]));
+        }
+        least
     }
 
     /// The last reading of the clock, in milliseconds since 1970: that of the start, until an event takes another.

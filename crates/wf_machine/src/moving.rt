@@ -1,11 +1,11 @@
 // Steps that `main` takes.
-ghost use Rattle.std.specs.Prelude.{◌≡◌, ◌<◌, ◌≤◌, ℕ, true, false, IfOk, IfSome, IsFalse, IsNone, IsTrue, Ok, OnErr, OnOk};
+ghost use Rattle.std.specs.Prelude.{◌≡◌, ◌<◌, ◌≤◌, ℕ, true, false, IfOk, IfSome, IsFalse, IsNone, IsTrue, Ok, OnOk, length};
 ghost use Rattle.wf_check.specs.Seen.{program_of};
 ghost use Rattle.wf_machine.specs.Applied.{Applied};
-ghost use Rattle.wf_machine.specs.Causes.{Comes, Stops};
-ghost use Rattle.wf_machine.specs.Runs.{IsMove, IsOut, IsPlain, shown, shown_by};
-ghost use Rattle.wf_machine.specs.State.{is_running};
-ghost use Rattle.wf_machine.specs.Seen.{StepsBy, StepsNot, WantsNot, state_of};
+ghost use Rattle.wf_frames.specs.Owned.{Around};
+ghost use Rattle.wf_machine.specs.Causes.{Comes, Stops, around_at};
+ghost use Rattle.wf_machine.specs.Seen.{IsAwakeAt, StepsBy, WantsAt, WantsNot, state_of};
+ghost use Rattle.wf_machine.specs.declared.ending.Ending.TheVariants.{Running};
 ghost use Rattle.wf_model.specs.Choose.{wanted};
 ghost use Rattle.wf_value.specs.Events.{Event as AnyEvent};
 ghost use Rattle.wf_frames.specs.Kinds.{kind_view};
@@ -16,12 +16,12 @@ use crate::events::ApplyFault;
 use crate::machine::{Machine, Tally};
 use crate::task::{Cause, go_on, kind_of};
 use wf_frames::Kind;
-use wf_moves::Task;
-use wf_never_wrong::never_wrong;
-use wf_value::{OutOfMemory, Tag, error_map};
+use wf_model::laws_of_waits;
+use wf_never_wrong::laws_of_places;
+use wf_value::{Tag, error_map};
 
 /// The counted event with this number isn't carried out: it ends the execution with a `ResourceLimitError`.
-const MOVE_LIMIT: u64 = 100_000;
+pub(crate) const MOVE_LIMIT: u64 = 100_000;
 
 /// The reading of the clock that a step sees, and the last reading behind it, both in milliseconds since 1970.
 #[derive(Clone, Copy)]
@@ -45,37 +45,39 @@ fn readings_of(kind: Kind, reading: u64, last: u64) -> Readings
 }
 
 impl Machine {
-    /// The kind of event that `main`'s next step wants; none where the execution or `main` has ended, and none where it waits.
+    /// The kind of event that the next step of the task at a place wants, which is awake.
     #[inline(always)]
-    pub(crate) fn wanted_kind(&self) -> Option<Kind>
-        ensures some { IfSome result (λ q. StepsBy self.now (kind_view q)) }
-        ensures none { IsNone result → StepsNot self.now }
+    pub(crate) fn kind_at(&self, place: usize) -> Kind
+        requires whole { self.now.broken ≡ false }
+        requires running { self.now.ending ≡ Running }
+        requires within { place < length self.now.moving.items }
+        requires awake { IsAwakeAt self.now place }
+        ensures { WantsAt self.now place (kind_view result) }
+    {
+        kind_of(&self.program, self.wants.as_slice(), &self.moving[place])
+    }
+
+    /// The place of a task whose next step wants an event of this kind; none where it isn't live, waits, or wants another one.
+    fn wants(&self, task: u32, kind: Kind) -> Option<usize>
+        requires { self.now.broken ≡ false }
+        ensures some { IfSome result (λ i. StepsBy self.now i task (kind_view kind)) }
+        ensures none { IsNone result → WantsNot self.now task (kind_view kind) }
     {
         if !self.ending.is_running() {
             return None;
         }
-        let Some(task) = &self.task else {
+        let place = self.tasks.place(task)?;
+        if !self.moving[place].is_awake() {
             return None;
-        };
-        if task.is_awake() {
-            Some(kind_of(&self.program, self.wants.as_slice(), task))
+        }
+        if self.kind_at(place) == kind {
+            Some(place)
         } else {
             None
         }
     }
 
-    /// Whether `main`'s next step wants an event of this kind.
-    fn wants(&self, kind: Kind) -> bool
-        ensures some { IsTrue result → StepsBy self.now (kind_view kind) }
-        ensures none { IsFalse result → WantsNot self.now (kind_view kind) }
-    {
-        match self.wanted_kind() {
-            Some(wanted) => wanted == kind,
-            None => false,
-        }
-    }
-
-    /// Takes a step of a task, where it is `main` and wants an event of this kind.
+    /// Takes a step of a task, where that is live and wants an event of this kind.
     pub(crate) fn apply_step(
         &mut self,
         kind: Kind,
@@ -87,22 +89,31 @@ impl Machine {
             (wanted (kind_view kind) task reading) result }
     {
         let readings = readings_of(kind, reading, self.tally.last);
-        if task != 0 || !self.wants(kind) || readings.last < self.tally.last {
+        if readings.last < self.tally.last {
             return Err(ApplyFault::NotEnabled);
         }
-        self.take_step(kind, reading)
+        match self.wants(task, kind) {
+            Some(place) => self.take_step(place, task, kind, reading),
+            None => Err(ApplyFault::NotEnabled),
+        }
     }
 
-    /// Takes `main`'s next step, which wants an event of this kind. It counts: the one with the number 100,000 isn't carried out, and ends
-    /// the execution.
+    /// Takes the next step of the task at a place, which wants an event of this kind. It counts: the one with the number 100,000 isn't
+    /// carried out, and ends the execution.
     #[inline(always)]
-    pub(crate) fn take_step(&mut self, kind: Kind, reading: u64) -> Result<(), ApplyFault>
+    pub(crate) fn take_step(
+        &mut self,
+        place: usize,
+        task: u32,
+        kind: Kind,
+        reading: u64,
+    ) -> Result<(), ApplyFault>
         requires whole { self.old.broken ≡ false }
-        requires wanted { StepsBy self.old (kind_view kind) }
+        requires wanted { StepsBy self.old place task (kind_view kind) }
         requires rises { self.old.tally.last
             ≤ last_by (kind_view kind) reading self.old.tally.last }
         ensures { Applied (state_of self.old) (state_of self.new)
-            (wanted (kind_view kind) 0 reading) result }
+            (wanted (kind_view kind) task reading) result }
     {
         let readings = readings_of(kind, reading, self.tally.last);
         let tally = Tally {
@@ -111,32 +122,34 @@ impl Machine {
             bodies: self.tally.bodies,
         };
         if tally.moves < MOVE_LIMIT {
-            self.carry_on(Cause::Step, readings.now, tally)
+            self.carry_on(place, task, Cause::Step, readings.now, tally)
         } else {
             self.stop(tally)
         }
     }
 
-    /// `main` goes on for this cause, and the rest stands so behind it. Without memory the machine is broken.
+    /// The task at a place goes on for this cause, and the rest stands so behind it. Without memory the machine is broken.
     #[inline(always)]
     pub(crate) fn carry_on(
         &mut self,
+        place: usize,
+        task: u32,
         cause: Cause,
         now: u64,
         tally: Tally,
     ) -> Result<(), ApplyFault>
+        ghost around: { Around }
+        requires around { around ≡ around_at self.old place task }
         requires whole { self.old.broken ≡ false }
-        requires comes { (e : AnyEvent) × Comes self.old cause now tally e }
+        requires comes { (e : AnyEvent) × Comes self.old place task cause now tally e }
         requires below { tally.moves < 100000 }
         requires bounded { tally.bodies ≤ 67108864 }
-        ensures { (e : AnyEvent) → Comes self.old cause now tally e
+        ensures { (e : AnyEvent) → Comes self.old place task cause now tally e
             → Applied (state_of self.old) (state_of self.new) e result }
     {
         // laws that the proof uses
-        never_wrong();
-        let Some(mut task) = self.task.take() else {
-            unreachable!()
-        };
+        laws_of_places();
+        laws_of_waits();
         // until it has gone on
         self.broken = true;
         self.facts.of_step.now = now;
@@ -148,114 +161,28 @@ impl Machine {
             &self.program,
             self.targets.as_slice(),
             &self.facts,
-            &mut task,
+            &mut self.moving[place],
             &mut self.scopes,
             &mut self.calls,
             cause,
         )?;
-        let ended = ending_of(did, tally.last, &mut self.calls, &mut self.log)?;
-        self.broken = false;
+        let ended = ending_of(task, did, tally.last, &mut self.calls, &mut self.log)?;
         self.tally = tally;
         match ended {
-            None => self.task = Some(task),
-            Some(ending) => self.ending = ending,
-        }
-        Ok(())
-    }
-
-    /// Where the execution runs, `main` is taken out, for a run of moves that read no clock. Until it is put back the machine counts as
-    /// broken.
-    #[inline(always)]
-    pub(crate) fn take_out(&mut self) -> Option<Task>
-        requires whole { self.old.broken ≡ false }
-        ensures out { IfSome result (λ t. IsOut self.new t) }
-        ensures shown { IfSome result (λ t. shown self.new t ≡ (state_of self.old).config) }
-        ensures none { IsNone result → state_of self.new ≡ state_of self.old }
-        ensures ended { IsNone result → is_running self.old.ending ≡ false }
-        ensures program { program_of self.new.program ≡ program_of self.old.program }
-    {
-        if !self.ending.is_running() {
-            return None;
-        }
-        let Some(task) = self.task.take() else {
-            return None;
-        };
-        self.broken = true;
-        self.facts.of_step.now = 0;
-        self.facts.of_step.last = self.tally.last;
-        self.facts.of_step.deeper = true;
-        self.facts.sending.calls = self.calls.count();
-        self.facts.sending.logged = self.log.size();
-        Some(task)
-    }
-
-    /// Whether the next move of `main`, which is out, reads no clock and is carried out.
-    #[inline(always)]
-    pub(crate) fn is_plain(&self, task: &Task) -> bool
-        requires { IsOut self.now task.now }
-        ensures some { IsTrue result → IsPlain self.now task.now }
-        ensures none { IsFalse result → IsPlain self.now task.now → ⊥ }
-    {
-        self.tally.moves + 1 < MOVE_LIMIT
-            && task.is_awake()
-            && kind_of(&self.program, self.wants.as_slice(), task) == Kind::Plain
-    }
-
-    /// `main`, which is out, takes its next move, and stays out. It gives whether `main` goes on; else the execution has ended. Without
-    /// memory the machine stays broken.
-    #[inline(always)]
-    pub(crate) fn move_on(&mut self, task: &mut Task) -> Result<bool, OutOfMemory>
-        requires out { IsOut self.old task.old }
-        requires plain { IsPlain self.old task.old }
-        ensures moves { IfOk result (λ goes. (reading : ℕ)
-            → IsMove reading (program_of self.old.program) (shown self.old task.old)
-            (shown_by goes self.new task.new)) }
-        ensures out { result ≡ Ok true → IsOut self.new task.new }
-        ensures whole { result ≡ Ok false → self.new.broken ≡ false }
-        ensures ended { result ≡ Ok false → is_running self.new.ending ≡ false }
-        ensures broken { OnErr result (self.new.broken ≡ true) }
-        ensures program { OnOk result
-            (program_of self.new.program ≡ program_of self.old.program) }
-    {
-        // laws that the proof uses
-        never_wrong();
-        let did = go_on(
-            &self.program,
-            self.targets.as_slice(),
-            &self.facts,
-            task,
-            &mut self.scopes,
-            &mut self.calls,
-            Cause::Step,
-        )?;
-        let ended = ending_of(did, self.tally.last, &mut self.calls, &mut self.log)?;
-        self.tally.moves += 1;
-        match ended {
             None => {
-                self.facts.sending.calls = self.calls.count();
-                self.facts.sending.logged = self.log.size();
-                Ok(true)
+                let awake = self.moving[place].is_awake();
+                self.tasks.mark(task, !awake);
+                self.broken = false;
+                Ok(())
             }
             Some(ending) => {
-                self.broken = false;
+                self.tasks.clear();
+                self.moving.truncate(0);
                 self.ending = ending;
-                Ok(false)
+                self.broken = false;
+                Ok(())
             }
         }
-    }
-
-    /// `main` is put back into its place.
-    #[inline(always)]
-    pub(crate) fn put_back(&mut self, task: Task)
-        requires { IsOut self.old task }
-        ensures { state_of self.new ≡ record {
-          program = program_of self.old.program;
-          config = shown self.old task;
-          broken = false;
-        } }
-    {
-        self.broken = false;
-        self.task = Some(task);
     }
 
     /// The end at a limit: nothing of the event is carried out. Without memory the machine is broken.
@@ -267,6 +194,9 @@ impl Machine {
         ensures { (e : AnyEvent) → Stops self.old tally e
             → Applied (state_of self.old) (state_of self.new) e result }
     {
+        // laws that the proof uses
+        laws_of_places();
+        laws_of_waits();
         match error_map(self.alloc, Tag::ResourceLimitError) {
             Ok(error) => {
                 self.tally = tally;

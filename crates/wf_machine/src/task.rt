@@ -4,17 +4,18 @@ ghost use Rattle.wf_ast.specs.Tree.{Program};
 ghost use Rattle.wf_check.specs.Seen.{nodes_of};
 ghost use Rattle.wf_frames.specs.Fits.{Fits};
 ghost use Rattle.wf_frames.specs.Frames.{inner};
+ghost use Rattle.wf_frames.specs.Owned.{Around};
 ghost use Rattle.wf_frames.specs.Sights.{Sees};
 ghost use Rattle.wf_frames.specs.Stands.{Stands};
 ghost use Rattle.wf_frames.specs.Turns.{Agrees};
 ghost use Rattle.wf_machine.specs.Causes.{ReachesFor, SuitsTo, calls_by, does_by};
-ghost use Rattle.wf_machine.specs.Main.{Aims, Begins, IsStanding, around, task_control};
+ghost use Rattle.wf_machine.specs.Main.{Begins, IsStandingFirst, around, task_control};
 ghost use Rattle.wf_model.specs.Kinds.{next_kind};
 ghost use Rattle.wf_model.specs.Local.{Scene};
 ghost use Rattle.wf_moves.specs.Tasks.{IsFirst, MovesSo, Stays};
 ghost use Rattle.wf_moves.specs.Waits.{CanGoOn, is_awake_in, result_in, task_local};
 ghost use Rattle.wf_model.specs.Spots.{spots};
-ghost use Rattle.wf_frames.specs.Built.{IsTableOf};
+ghost use Rattle.wf_frames.specs.Built.{AreTargets, IsTableOf};
 ghost use Rattle.wf_frames.specs.Kinds.{AreWants, kind_view};
 ghost use Rattle.wf_value.specs.Plain as values;
 
@@ -39,7 +40,7 @@ pub(crate) fn first_task(
     requires tells { IsTableOf (spots plain.flows) (nodes_of program.now) }
     requires first { IsFirst (around plain) scopes.old }
     ensures begins { IfOk result (λ t. Begins plain (values.plain argument) t scopes.new) }
-    ensures standing { IfOk result (λ t. IsStanding plain (nodes_of program.now) t scopes.new) }
+    ensures standing { IfOk result (λ t. IsStandingFirst plain (nodes_of program.now) t scopes.new) }
 {
     let nodes = program.nodes();
     if nodes.is_empty() {
@@ -52,7 +53,7 @@ pub(crate) fn first_task(
     Ok(Some(task))
 }
 
-/// Which event `main`'s next move wants.
+/// Which event a task's next move wants.
 #[inline(always)]
 pub(crate) fn kind_of(program: &Checked, wants: &[Wants], task: &Task) -> Kind
     ghost plain: { Program }
@@ -67,7 +68,7 @@ pub(crate) fn kind_of(program: &Checked, wants: &[Wants], task: &Task) -> Kind
     task.next_kind(program.nodes(), wants)
 }
 
-/// Why `main` goes on.
+/// Why a task goes on.
 #[derive(Drop)]
 pub(crate) enum Cause {
     /// It takes its next step.
@@ -86,7 +87,7 @@ pub(crate) struct Heard {
     pub(crate) with: Result<Value, Value>,
 }
 
-/// `main` goes on for this cause. Without memory the task, the layers and the calls are only to be let go.
+/// A task goes on for this cause. Without memory the task, the layers and the calls are only to be let go.
 #[inline(always)]
 pub(crate) fn go_on(
     program: &Checked,
@@ -97,20 +98,19 @@ pub(crate) fn go_on(
     calls: &mut Calls,
     cause: Cause,
 ) -> Result<Move, OutOfMemory>
-    ghost plain: { Program }
-    requires tells { IsTableOf (spots plain.flows) (nodes_of program.now) }
-    requires aims { Aims plain (nodes_of program.now) targets.now }
-    requires stands { Stands (around plain) (nodes_of program.now) task.old.frames scopes.old }
+    ghost around: { Around }
+    requires tells { IsTableOf around.spots (nodes_of program.now) }
+    requires aims { AreTargets around.flows around.spots (nodes_of program.now) targets.now }
+    requires stands { Stands around (nodes_of program.now) task.old.frames scopes.old }
     requires going { CanGoOn (nodes_of program.now) task.old }
     requires suits { SuitsTo cause task.old }
     ensures moved { IfOk result (λ m. (s : Scene) → Sees s facts.now.of_step
-        → ReachesFor cause s facts.now.sending → Agrees s (around plain)
-        → MovesSo (does_by cause (result_in (around plain) task.old.wait) s
-        (task_local (around plain) task.old scopes.old)) m
-        (task_local (around plain) task.new scopes.new)) }
+        → ReachesFor cause s facts.now.sending → Agrees s around
+        → MovesSo (does_by cause (result_in around task.old.wait) s
+        (task_local around task.old scopes.old)) m
+        (task_local around task.new scopes.new)) }
     ensures calls { OnOk result (calls.new ≡ calls_by cause calls.old) }
-    ensures stands { OnOk result (Stands (around plain) (nodes_of program.now) task.new.frames
-        scopes.new) }
+    ensures stands { OnOk result (Stands around (nodes_of program.now) task.new.frames scopes.new) }
     ensures left { IfOk result (λ m. Stays (nodes_of program.now) m task.new) }
 {
     let nodes = program.nodes();

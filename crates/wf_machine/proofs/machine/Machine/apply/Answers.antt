@@ -7,7 +7,7 @@ pub returns-in-Err : goal.returns-in-Err
 returns-in-Err g c = record {
   applied = search rules;
   whole = search rules;
-  not_enabled = λ is. not_now c.never_wrong.ensures c.args.self.now c.if-self.false (event_view c.args.event.now) (c.carry_out.ensures.never (c.in-Err.is ∙ is));
+  not_enabled = λ is. not_now c.laws_of_places.ensures.steps_stand c.args.self.now c.if-self.false (event_view c.args.event.now) (c.carry_out.ensures.never (c.in-Err.is ∙ is));
   stays = search rules;
   program = search rules;
   counted = search rules;
