@@ -15,4 +15,5 @@ pub mod Language
 pub mod History
 pub mod At
 pub mod HistoryLaws
+pub mod FormatRows
 pub mod Moments
