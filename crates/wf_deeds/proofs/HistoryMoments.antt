@@ -36,7 +36,7 @@ more_begun : (L : Language) (x : Start × Bool) (ts us vs : List Turn) (j : Jour
 more_begun L x ts us vs j is same =
     ap (λ ws. begun L (Some x) ws) same
     ∙ (elim (may_stand L x) as (λ v. (if v then option_map (λ p. record { start = x.0; program = p; turns = ts }) (L.source x.0.source) else None) ≡ Some j
-          → (if v then option_map (λ p. record { start = x.0; program = p; turns = ts ++ vs }) (L.source x.0.source) else None) ≡ Some (with_more j vs)) [
+    → (if v then option_map (λ p. record { start = x.0; program = p; turns = ts ++ vs }) (L.source x.0.source) else None) ≡ Some (with_more j vs)) [
       | false ↦ λ no. absurd (cc no)
       | true ↦ λ found.
           (elim (L.source x.0.source) as (λ o. option_map (λ p. record { start = x.0; program = p; turns = ts }) o ≡ Some j → option_map (λ p. record { start = x.0; program = p; turns = ts ++ vs }) o ≡ Some (with_more j vs)) [
@@ -147,7 +147,7 @@ by_then L session waits s (b ∷ bs) t is by =
     first v (inr g) rest = (
       subst (λ o. IsTrue (list_all (is_before session waits) (with_turn o (turns_in bs)))) (sym g.meant) rest.0,
       subst (λ n. IsTrue (nat_lt n session || (nat_eq n session && nat_le s.waits waits))) g.session
-        (subst (λ w. IsTrue (nat_lt v.session session || (nat_eq v.session session && nat_le w waits))) g.waits rest.1),
+          (subst (λ w. IsTrue (nat_lt v.session session || (nat_eq v.session session && nat_le w waits))) g.waits rest.1),
     )
 
 -- the last turn of some records is the one that they lead to

@@ -17,6 +17,7 @@ mod Handed
 mod Computed
 mod Complete
 mod Histories
+mod FirstFormat
 pub mod Playing
 pub mod HistoryMoments
 mod Runs

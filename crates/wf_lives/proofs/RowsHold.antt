@@ -1,5 +1,5 @@
 -- The worked examples hold: records are read from their bytes, their sources are worked examples of wf_source, and the rest computes.
-use Rattle.std.specs.Prelude.{◌≡◌, ℕ, List, [], ◌∷◌, map, Option, Some, None, option_and_then, Result, Ok, Err, codes}
+use Rattle.std.specs.Prelude.{◌≡◌, ℕ, true, false, List, [], ◌∷◌, map, Option, Some, None, option_and_then, Result, Ok, Err, codes}
 use Rattle.std.proofs.Common.{refl, ◌∙◌, ap}
 use Rattle.std.specs.Str.{chars, is_utf8}
 use Rattle.json.specs.Json.{value}

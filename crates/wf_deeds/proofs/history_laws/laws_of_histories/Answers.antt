@@ -1,5 +1,6 @@
 use Rattle.wf_deeds.proofs.Complete as complete
 use Rattle.wf_deeds.proofs.Computed as computed
+use Rattle.wf_deeds.proofs.FirstFormat as first_format
 use Rattle.wf_deeds.proofs.Histories as histories
 use Rattle.wf_deeds.proofs.Playing as playing
 use Rattle.wf_deeds.proofs.history_laws.laws_of_histories.Goals as goal
@@ -33,3 +34,6 @@ returns-clause-plays c = playing.history_plays
 
 pub returns-clause-played : goal.returns-clause-played
 returns-clause-played c = playing.played_is_history
+
+pub returns-clause-first_format : goal.returns-clause-first_format
+returns-clause-first_format c = first_format.first_format_stays
