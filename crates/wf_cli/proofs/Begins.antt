@@ -249,6 +249,6 @@ start_of_line once s l source p t is command first reads spelled meaning_of law 
       means = means;
       program = p;
       accepted = accepted;
-      history = (_, law the_language (record_bytes (Started st)) st p _ means accepted begins);
+      history = (_, law the_language (record_bytes (Started st)) (Started st) st false p _ means refl refl accepted begins);
       command = run_command s (l, is, command);
     }

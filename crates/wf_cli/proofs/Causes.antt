@@ -3,7 +3,7 @@ use Rattle.std.proofs.Common.{◌≡◌, ◌<◌, inl, inr, IsTrue, ℕ, Bool, t
 use Rattle.wf_lemmas.proofs.Options.{same_some}
 use Rattle.wf_cli.specs.Top.{IsLineOf, IsBadLine, IsBadArgument, IsRefused, HasOtherMagic, IsStarted, IsNotStarted, IsNoHistory, Reported, TellsHistory, MayPrint, IsOfFile, HasToSay, bad_line, bad_argument, refused, reported, of_file}
 use Rattle.wf_engine.specs.Printed as end
-use Rattle.wf_engine.specs.Printed.{Scene, uses_source, uses_journal, executes, needs_history, status_of, tells_history}
+use Rattle.wf_engine.specs.Printed.{Scene, found_by, uses_source, uses_journal, executes, needs_history, status_of, tells_history}
 use Rattle.wf_engine.specs.Starts.{HasArgument}
 use Rattle.wf_host.specs.World.{World}
 use Rattle.wf_host.specs.declared.data.Deed.{Deed}
@@ -11,7 +11,10 @@ use Rattle.wf_args.specs.Lines.{PlainLine, line_of}
 use Rattle.wf_args.specs.declared.command.Command.{Command}
 use Rattle.wf_args.specs.declared.command.Command.TheVariants.{Check, Format, Run, Resume, Show, At, Log, Help, Version}
 use Rattle.wf_model.specs.Config.{Outcome, Active, Returned, Raised, Cancelled}
+use Rattle.wf_deeds.proofs.Playing.{played_is_history}
+use Rattle.wf_deeds.specs.History.{history}
 use Rattle.wf_deeds.specs.Language.{Language}
+use Rattle.wf_journal.specs.Records.{records}
 use Rattle.wf_replay.specs.TheLanguage.{the_language}
 use Rattle.wf_status.specs.Statuses.{rank, status_text}
 use Rattle.wf_status.specs.declared.Refusal.{Refusal}
@@ -181,6 +184,28 @@ not_run_and_needs s a b =
 
 pub resume_needs : (s : Scene) → IsLineOf s (λ c. c ≡ Resume) → IsLineOf s (λ c. needs_history c ≡ true)
 resume_needs s line = line_is s (λ c. c ≡ Resume) (λ c. needs_history c ≡ true) (λ c is. ap needs_history is) line
+
+-- ## No history
+-- each command finds where a history leads
+found_history : (L : Language) (c : Command) (J : List (List ℕ)) → found_by L c J ≡ history L J
+found_history L Check J = refl
+found_history L Format J = refl
+found_history L Run J = refl
+found_history L Resume J = refl
+found_history L Show J = refl
+found_history L At J = played_is_history L J
+found_history L Log J = refl
+found_history L Help J = refl
+found_history L Version J = refl
+
+pub none_found : (L : Language) (s : Scene) (n : ℕ) → IsNoHistory L s n → history L (records s.found) ≡ Err n
+none_found L s n (l, is, (needs, found)) = sym (found_history L l.command (records s.found)) ∙ found
+
+pub none_needed : (L : Language) (s : Scene) (n : ℕ) → IsNoHistory L s n → IsLineOf s (λ c. needs_history c ≡ true)
+none_needed L s n (l, is, (needs, found)) = (l, is, needs)
+
+pub is_no_history : (L : Language) (s : Scene) (n : ℕ) → IsLineOf s (λ c. needs_history c ≡ true) → history L (records s.found) ≡ Err n → IsNoHistory L s n
+is_no_history L s n (l, is, needs) found = (l, is, (needs, found_history L l.command (records s.found) ∙ found))
 
 -- ## Arguments
 -- just `run` has one

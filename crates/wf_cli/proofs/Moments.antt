@@ -1,5 +1,5 @@
 -- Moments of a command that are safe.
-use Rattle.std.proofs.Common.{◌≡◌, ◌≢◌, ◌≤◌, ◌⊎◌, inl, inr, ⊎_elim, ℕ, true, false, List, [], ◌∷◌, ◌++◌, All, Contains, None, Some, option_map, refl, sym, ◌∙◌, ap, subst, append_assoc, arith}
+use Rattle.std.proofs.Common.{◌≡◌, ◌≢◌, ◌≤◌, ◌⊎◌, inl, inr, ⊎_elim, ℕ, true, false, List, [], ◌∷◌, ◌++◌, All, Contains, Option, None, Some, option_map, refl, sym, ◌∙◌, ap, subst, append_assoc, arith}
 use Rattle.std.specs.List.{AllByRecursion}
 use Rattle.std.proofs.lemmas.List.{append-nil, append_cancel_left}
 use Rattle.std.proofs.lemmas.List.Elements.{All-nil, Contains-append_left}
@@ -21,8 +21,9 @@ use Rattle.wf_engine.specs.Safe.{IsFit, SafeAt, LateAt, command_by}
 use Rattle.wf_engine.specs.Starts.{start_of}
 use Rattle.wf_engine.specs.declared.engine.Engine.{Engine}
 use Rattle.wf_events.specs.Reading.{meaning}
-use Rattle.wf_events.specs.Records.{Started, Turned}
+use Rattle.wf_events.specs.Records.{Started}
 use Rattle.wf_events.specs.Spelling.{record_bytes}
+use Rattle.wf_history.specs.Kinds.{turn_in}
 use Rattle.wf_host.specs.World.{World}
 use Rattle.wf_host.specs.declared.data.Deed.{Deed}
 use Rattle.wf_host.specs.declared.data.Deed.TheVariants.{Now}
@@ -106,7 +107,7 @@ pub record StartOfLine (s : Scene) (t : ℕ) (payload : List ℕ) : Type 0 where
 
 -- a start is no turn
 pub no_turn_of_start : (payload : List ℕ) (l : PlainLine) (bytes : List ℕ) (t number : ℕ) → meaning payload ≡ Some (Started (start_of l bytes t)) → IsOfSession number payload
-no_turn_of_start payload l bytes t number means u is = let no : Some (Started (start_of l bytes t)) ≡ Some (Turned u) = sym means ∙ is in absurd (cc no)
+no_turn_of_start payload l bytes t number means u is = let no : ◌≡◌ {A = Option Turn} None (Some u) = ap turn_in (sym means) ∙ is in absurd (cc no)
 
 -- records behind some, which are these
 own_behind : (number : ℕ) (before those added : List (List ℕ)) → before ++ those ≡ before ++ added → AllByRecursion (IsOfSession number) those → AllByRecursion (IsOfSession number) added

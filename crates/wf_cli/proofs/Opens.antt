@@ -2,7 +2,7 @@
 use Rattle.std.proofs.Common.{◌≡◌, ◌≤◌, ◌⊎◌, ◌≢◌, inl, inr, ℕ, true, false, List, [], ◌∷◌, ◌++◌, length, take, None, Result, Ok, Err, IfOk, IfErr, OnOk, IsErrOf, refl, sym, ◌∙◌, ap, subst, arith}
 use Rattle.std.specs.List.{AllByRecursion}
 use Rattle.std.proofs.lemmas.List.{append-nil, append_cancel_left}
-use Rattle.wf_cli.proofs.Causes.{not_both, not_run_and_needs, not_run_and_resume, resume_needs}
+use Rattle.wf_cli.proofs.Causes.{not_both, not_run_and_needs, not_run_and_resume, resume_needs, is_no_history, none_found, none_needed}
 use Rattle.wf_cli.proofs.Moments.{early_nothing, early_now, kept_now, kept_still, late_found, no_turns_of_none, reads_none_of_none}
 use Rattle.wf_cli.proofs.Safe.{of_command}
 use Rattle.wf_cli.specs.Reports.{the_reports}
@@ -50,7 +50,7 @@ pub not_resumed_by_run : (s : Scene) → IsLineOf s (λ c. c ≡ Run) → ¬ IsN
 not_resumed_by_run s line why = not_run_and_needs s line why.0
 
 pub no_history_by_run : (L : Language) (s : Scene) (n : ℕ) → IsLineOf s (λ c. c ≡ Run) → ¬ IsNoHistory L s n
-no_history_by_run L s n line why = not_run_and_needs s line why.0
+no_history_by_run L s n line why = not_run_and_needs s line (none_needed L s n why)
 
 -- what is passed over before each status
 pub passed_magic : (L : Language) (s : Scene) → IsPassed L s status.NotAJournal
@@ -165,7 +165,7 @@ module _ (O : Outside) (s : Scene) (old new : World) (line : IsLineOf s (λ c. c
     magic = no_magic s (inr begins);
     started = not_started_by_resume s line;
     not_started = λ why. no_record_no_history L (records s.found) st is why.1;
-    history = λ n why. not_both (history L (records s.found)) st n is why.1;
+    history = λ n why. not_both (history L (records s.found)) st n is (none_found L s n why);
   }
 
   opened_of : (e : Engine) (done : List Deed) → new.deeds ≡ old.deeds ++ done → Clauses O old new (Ok e) → IsOpened the_language O kept.Resume s done new e
@@ -173,10 +173,10 @@ module _ (O : Outside) (s : Scene) (old new : World) (line : IsLineOf s (λ c. c
       let o = k.opened in
       let same : o.done ≡ done = append_cancel_left old.deeds o.done done (sym o.deeds ∙ deeds) in
       let stays : records new.seen ≡ records s.found = ap records (k.seen ∙ found) in
-      let leads = (o.stands false).leads in
+      let leads = o.leads in
       let is : history the_language (records s.found) ≡ Ok leads.standing = subst (λ J. history the_language J ≡ Ok leads.standing) stays leads.history in
       record {
-        stands = subst (λ D. StandsFor the_language O kept.Resume false (memory e) (records new.seen) D) same (o.stands false);
+        stands = subst (λ D. StandsFor the_language O kept.Resume false (memory e) (records new.seen) D) same (o.stands (leads.standing, leads.history) false);
         unpolled = unpolled_of done k.deeds deeds;
         number = k.session ∙ ap (λ f. next_session (journal the_language (records f))) found;
         added = [];
@@ -202,7 +202,7 @@ module _ (O : Outside) (s : Scene) (old new : World) (line : IsLineOf s (λ c. c
       ((resume_uses s line, why.0, why.1), passed_magic the_language s)
   fault_of (engine.NotAHistory n) k =
       let why = subst (λ f. (history the_language (records f) ≡ Err n) × (records f ≢ []) × (take 4 f ≡ magic)) found (k.not_a_history n refl) in
-      ((resume_needs s line, why.0), passed_history the_language s n (no_magic s (inr why.2)) (not_started_by_resume s line) (λ no. why.1 no.1))
+      (is_no_history the_language s n (resume_needs s line) why.0, passed_history the_language s n (no_magic s (inr why.2)) (not_started_by_resume s line) (λ no. why.1 no.1))
   fault_of engine.AlreadyStarted k = absurd (none k.only)
     where
       none : (engine.AlreadyStarted ≡ engine.DiskFault) ⊎ (engine.AlreadyStarted ≡ engine.NotAJournal) ⊎ (engine.AlreadyStarted ≡ engine.NotStarted) ⊎ ((n : ℕ) × (engine.AlreadyStarted ≡ engine.NotAHistory n)) ⊎ (engine.AlreadyStarted ≡ engine.OutOfMemory) → ⊥

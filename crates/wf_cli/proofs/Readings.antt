@@ -9,7 +9,8 @@ use Rattle.wf_engine.specs.Printed.{TellsHistory, tells_history}
 use Rattle.wf_host.specs.World.{World, Only, LeavesOnly}
 use Rattle.wf_journal.specs.Journal.{IsJournal}
 use Rattle.wf_journal.specs.Records.{magic, records}
-use Rattle.wf_deeds.specs.History.{history}
+use Rattle.wf_deeds.proofs.Playing.{played_is_history}
+use Rattle.wf_deeds.specs.History.{front_of, history, plays}
 use Rattle.wf_deeds.specs.HistoryLaws.{IsHistory}
 use Rattle.wf_args.specs.Lines.{PlainLine, turn_of, word_of}
 use Rattle.wf_args.specs.declared.command.Command.{Command}
@@ -34,7 +35,7 @@ unfolding the_reports
 tells_stood l J text command (c, stands, shows) = λ s line found.
     let front = stands.front in
     subst (TellsHistory the_language the_reports s) (sym (shows ∙ ap texts.shown (sym front.2)))
-    (end.stood l stands.whole front.0 line command (subst (λ K. history the_language K ≡ Ok stands.whole) (sym found) stands.is_history) (subst (λ K. history the_language (take (suc (turn_of l)) K) ≡ Ok front.0) (sym found) front.1))
+    (end.stood l stands.whole front.0 line command (subst (λ K. plays the_language K ≡ Ok stands.whole) (sym found) stands.played) (subst (λ K. plays the_language (front_of (turn_of l) K) ≡ Ok front.0) (sym found) front.1))
 
 tells_logged : (l : PlainLine) (J : List (List ℕ)) (c : Config) (text : List ℕ) → l.command ≡ Log → Reaches the_language J c → text ≡ texts.logged (word_of Grep l) c.log → IsToldOf l J text
 unfolding the_reports
@@ -127,10 +128,17 @@ text_read l old new q x text k is history tells =
       deeds = k.deeds;
     }
 
+-- records that don't play are no history
+pub no_play_read : {T : Type 0} (file : List ℕ) (r : Result T EngineFault)
+    → IfErr r (λ e. (n : ℕ) → e ≡ engine.NotAHistory n → (plays the_language (records file) ≡ Err n) × (records file ≢ []) × (take 4 file ≡ magic))
+    → IfErr r (λ e. (n : ℕ) → e ≡ engine.NotAHistory n → (history the_language (records file) ≡ Err n) × (records file ≢ []) × (take 4 file ≡ magic))
+no_play_read file (Ok x) h = tt
+no_play_read file (Err e) h = λ n is. let it = h n is in (sym (played_is_history the_language (records file)) ∙ it.0, it.1, it.2)
+
 -- a text of a front of it
 pub front_read : (l : PlainLine) (old new : World) (q : Result (String Global) EngineFault) → ReadsFile old new q → l.command ≡ At → IfOk q (λ text. Shows the_language (records old.seen) (turn_of l) (string_bytes text)) → ReadsJournal l old new q
 front_read l old new (Ok text) k command shows =
-    text_read l old new (Ok text) text text k refl (let stands = shows.1 in (stands.whole, stands.is_history)) (tells_stood l (records old.seen) (string_bytes text) command shows)
+    text_read l old new (Ok text) text text k refl (let stands = shows.1 in (stands.whole, sym (played_is_history the_language (records old.seen)) ∙ stands.played)) (tells_stood l (records old.seen) (string_bytes text) command shows)
 front_read l old new (Err f) k command shows = fault_read l old new f k
 
 -- ## The texts

@@ -3,7 +3,7 @@ use Rattle.std.proofs.Common.{◌≡◌, ◌≤◌, ◌⊎◌, ◌≢◌, inl, i
 use Rattle.std.specs.Prelude.{IfErr, IsErrOf, String, string_bytes}
 use Rattle.std.proofs.lemmas.List.{append-nil}
 use Rattle.std.specs.declared.alloc.Global.{Global}
-use Rattle.wf_cli.proofs.Causes.{both, not_both, needs_line, not_run_and_needs, tells_line, argument_line}
+use Rattle.wf_cli.proofs.Causes.{both, not_both, needs_line, not_run_and_needs, tells_line, argument_line, is_no_history, none_found}
 use Rattle.wf_cli.proofs.Moments.{early_nothing, kept_still, late_found, no_turns_next, no_turns_of_none}
 use Rattle.wf_cli.proofs.Opens.{no_magic, no_record_no_history, not_of_polls, nothing_silently, passed_all, passed_history, passed_magic, passed_not_started}
 use Rattle.wf_cli.proofs.Safe.{still_end, plain_end}
@@ -92,7 +92,7 @@ module _ (s : Scene) (l : PlainLine) (is_line : line_of s.words ≡ Ok l) (tells
         ((needs_line s needs, why.0, why.1), passed_magic the_language s)
     fault_of (engine.NotAHistory n) is k =
         let why = subst (λ f. (history the_language (records f) ≡ Err n) × (records f ≢ []) × (take 4 f ≡ magic)) found (k.not_a_history n refl) in
-        ((needs, why.0), passed_history the_language s n (no_magic s (inr why.2)) never_started (λ no. why.1 no.1))
+        (is_no_history the_language s n needs why.0, passed_history the_language s n (no_magic s (inr why.2)) never_started (λ no. why.1 no.1))
     fault_of engine.AlreadyStarted is k = absurd (none is)
       where
         none : IsReadFault engine.AlreadyStarted → ⊥
@@ -124,7 +124,7 @@ module _ (s : Scene) (l : PlainLine) (is_line : line_of s.words ≡ Ok l) (tells
           magic = no_magic s (inr begins);
           started = never_started;
           not_started = λ why. no_record_no_history the_language (records s.found) is.0 is.1 why.1;
-          history = λ n why. not_both (history the_language (records s.found)) is.0 n is.1 why.1;
+          history = λ n why. not_both (history the_language (records s.found)) is.0 n is.1 (none_found the_language s n why);
         }
 
     tells_of : (text : String Global) → ReadsJournal l old new (Ok text) → TellsHistory the_language s (string_bytes text)

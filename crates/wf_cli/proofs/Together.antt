@@ -1,7 +1,7 @@
 -- What is said where a cause holds: the status of this cause, or one that is looked at before.
 use Rattle.std.proofs.Common.{◌≡◌, ◌<◌, ◌⊎◌, inl, inr, ⊎_elim, IsTrue, ℕ, true, false, List, None, Some, Result, Err, refl, sym, ◌∙◌, ap, subst, arith}
 use Rattle.std.proofs.lemmas.Bool.{cases_lt}
-use Rattle.wf_cli.proofs.Causes.{same_ok, same_err, both, no_bad_line, not_both_journals, run_executes, needs_line, reported_idle, reported_line, refused_line, argument_line, no_bad_argument, Cause, gives_cause}
+use Rattle.wf_cli.proofs.Causes.{same_ok, same_err, both, no_bad_line, not_both_journals, run_executes, needs_line, reported_idle, reported_line, refused_line, argument_line, no_bad_argument, Cause, gives_cause, none_found, none_needed}
 use Rattle.wf_cli.specs.Reports.{layout_of, the_reports}
 use Rattle.wf_cli.specs.Top.{IsLineOf, IsBadLine, IsBadArgument, IsRefused, IsNoHistory, Reported, MayPrint, IsOfFile, IsPassed, HasToSay, bad_line, bad_argument, refused, reported, of_file}
 use Rattle.wf_engine.specs.Printed as end
@@ -167,7 +167,7 @@ same_history : (L : Language) (s : Scene) (image : List ℕ) (D : List Deed) (te
 same_history L s image D text n other why is gives equal =
     let found = at_history other is equal in
     let why2 : IsNoHistory L s found.0 = subst (Cause L s) found.1 (gives_cause L s image D other text gives) in
-    found.1 ∙ ap status.NotAHistory (same_err (history L (records s.found)) found.0 n why2.1 why.1)
+    found.1 ∙ ap status.NotAHistory (same_err (history L (records s.found)) found.0 n (none_found L s found.0 why2) (none_found L s n why))
 
 -- where a cause of the file holds, and the host tells: nothing behind it comes, and no other status of its rank
 pub where_of_file : (s : Scene) (old new : World) (st other : Status) (text : List ℕ) → IsTrue old.tells → 4 < rank st → IsLineOf s (λ c. uses_journal c ≡ true) → ((q : Status) → IsPassed the_language s q → rank st < rank q → ⊥)
@@ -183,7 +183,7 @@ pub where_no_history : (s : Scene) (old new : World) (n : ℕ) (other : Status) 
 where_no_history s old new n _ _ told why (bad_line m is) = inr (omega arith)
 where_no_history s old new n _ _ told why (bad_argument bad) = inr (omega arith)
 where_no_history s old new n _ _ told why (refused q is fine) = inr (omega arith)
-where_no_history s old new n _ _ told why (reported text report back) = absurd (not_both_journals s (needs_line s why.0) (reported_line s text report))
+where_no_history s old new n _ _ told why (reported text report back) = absurd (not_both_journals s (needs_line s (none_needed the_language s n why)) (reported_line s text report))
 where_no_history s old new n _ _ told why (of_file other text is line accepted gives) =
     let g = (gives told).0 in
     ordered (status.NotAHistory n) other is (λ low. (gives told).1.history n low why) (same_history the_language s new.seen g.0 text n other why is g.2)

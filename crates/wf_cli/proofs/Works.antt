@@ -5,7 +5,7 @@ use Rattle.std.specs.Prelude.{IsErrOf, codes, decimal}
 use Rattle.std.proofs.lemmas.List.{append-nil}
 use Rattle.wf_lemmas.proofs.Options.{same_some}
 use Rattle.wf_ast.specs.Tree.{Program}
-use Rattle.wf_cli.proofs.Causes.{same_ok, same_err, both, not_both, executing, executes_line, not_both_journals, no_argument, good_argument, argument_line, one_command, reported_line}
+use Rattle.wf_cli.proofs.Causes.{same_ok, same_err, both, not_both, executing, executes_line, not_both_journals, no_argument, good_argument, argument_line, one_command, reported_line, none_found, none_needed}
 use Rattle.wf_cli.proofs.Deeds.{polls_both, printed_both, small_polls}
 use Rattle.wf_cli.proofs.Safe.{of_command, IsPlainEnd, plain_end, still_end}
 use Rattle.wf_cli.proofs.Together.{where_told, same_bytes}
@@ -187,9 +187,9 @@ fault_gives L s engine.OutOfMemory it holds says = absurd (cc says)
 
 -- records that are no history aren't those of a fit file
 no_fit : (L : Language) (s : Scene) (n : ℕ) → IsNoHistory L s n → IsPassed L s (status.NotAHistory n) → IsFit L s.found → ⊥
-no_fit L s n why passed (inl short) = passed.not_started (omega arith) (why.0, new_none s.found short)
-no_fit L s n why passed (inr (inl (begins, none))) = passed.not_started (omega arith) (why.0, none)
-no_fit L s n why passed (inr (inr (begins, (st, is)))) = not_both (history L (records s.found)) st n is why.1
+no_fit L s n why passed (inl short) = passed.not_started (omega arith) (none_needed L s n why, new_none s.found short)
+no_fit L s n why passed (inr (inl (begins, none))) = passed.not_started (omega arith) (none_needed L s n why, none)
+no_fit L s n why passed (inr (inr (begins, (st, is)))) = not_both (history L (records s.found)) st n is (none_found L s n why)
 
 -- what a status behind the opening's sync tells
 pub fault_late : (O : Outside) (s : Scene) (old new : World) (f : EngineFault) (it : Said) → FaultHolds the_language s f → ((f ≡ engine.AlreadyStarted) ⊎ (f ≡ engine.NotStarted) → LateNow the_language O s old new) → SaysFault f (Ok it) → IsBehindSync s it.status → LateNow the_language O s old new

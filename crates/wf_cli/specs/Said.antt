@@ -9,7 +9,7 @@ use Rattle.wf_cli.specs.declared.argument.ArgumentFault.TheVariants as argument
 use Rattle.wf_cli.specs.declared.end.Said.{Said}
 use Rattle.wf_cli.specs.declared.end.Silence.{Silence}
 use Rattle.wf_cli.specs.declared.end.Silence.TheVariants as silence
-use Rattle.wf_deeds.specs.Clauses.{IsOfSession, KeptAt}
+use Rattle.wf_deeds.specs.Clauses.{AreAdded, KeptAt}
 use Rattle.wf_deeds.specs.Deeds.{IsSmall, polls, nows}
 use Rattle.wf_deeds.specs.Kept as kept
 use Rattle.wf_deeds.specs.Memory.{Memory, StandsFor, session as session_of}
@@ -21,7 +21,7 @@ use Rattle.wf_engine.specs.Printed.{Scene, uses_source, uses_journal, executes, 
 use Rattle.wf_engine.specs.Safe.{IsFit, Since, SafeAt, LateAt, command_by, session}
 use Rattle.wf_engine.specs.Starts.{start_of}
 use Rattle.wf_engine.specs.declared.engine.Engine.{Engine}
-use Rattle.wf_events.specs.Records.{Started}
+use Rattle.wf_history.specs.Kinds.{first_record}
 use Rattle.wf_events.specs.Spelling.{record_bytes}
 use Rattle.wf_host.specs.Source.{Rest, IsFirst}
 use Rattle.wf_host.specs.World.{World, Faults, Told, Only, LeavesOnly, Rose}
@@ -40,7 +40,7 @@ use Rattle.wf_machine.specs.Outcome.{IsResult}
 use Rattle.wf_model.specs.Config.{Config, Outcome, Active}
 use Rattle.wf_host.specs.Printing.{PrintsFront, PrintsWhole, LeavesSome, TookNothing, PrintedSoFar, printed}
 use Rattle.wf_deeds.specs.At.{journal, next_session}
-use Rattle.wf_deeds.specs.History.{Standing, history}
+use Rattle.wf_deeds.specs.History.{Standing, history, opens}
 use Rattle.wf_deeds.specs.Language.{Language}
 use Rattle.wf_deeds.specs.HistoryLaws.{IsHistory}
 use Rattle.wf_report.specs.Texts.{logged, shown}
@@ -175,7 +175,7 @@ MayEndNow L O s old new st = (image : List ℕ) → new.may_leave image → Sinc
 -- where none was found, the records are the start of the line, of the source that was read and of the clock
 abbrev pub HasStartOfLine : Scene → List Deed → List (List ℕ) → Type 0
 HasStartOfLine s done J = records s.found ≡ [] → (l : PlainLine) × (bytes : List ℕ) × end.Reads s l bytes
-    × ((t : ℕ) × Contains (nows done) t × (J ≡ record_bytes (Started (start_of l bytes t)) ∷ []))
+    × ((t : ℕ) × Contains (nows done) t × (J ≡ record_bytes (first_record (start_of l bytes t)) ∷ []))
 
 -- an engine that stands for what was found, and for the start of the line where it was begun
 pub record IsOpened (L : Language) (O : Outside) (command : kept.Command) (s : Scene) (done : List Deed) (new : World) (e : Engine) : Type 0 where
@@ -184,7 +184,7 @@ pub record IsOpened (L : Language) (O : Outside) (command : kept.Command) (s : S
   pub number : (memory e).session ≡ next_session (journal L (records s.found))
   pub added : List (List ℕ)
   pub keeps : records new.seen ≡ records s.found ++ added
-  pub own : AllByRecursion (IsOfSession (memory e).session) added
+  pub own : AreAdded L (records s.found) (memory e).session added
   pub start : HasStartOfLine s done (records new.seen)
   pub is_of : command_by (line_of s.words) ≡ command
   pub causes : HasNoCauseInFile L s
@@ -214,7 +214,7 @@ pub record Opening (O : Outside) (command : kept.Command) (s : Scene) (old new :
   -- what is refused or only gone on with isn't written by this
   pub refused : HasOtherMagic s ⊎ IsStarted s ⊎ IsNotStarted s ⊎ ((n : ℕ) × IsNoHistory the_language s n) → Unwritten old new
   pub resumed : command ≡ kept.Resume → Unwritten old new
-  pub finished : (st : Standing) → IsLineOf s (λ c. c ≡ Resume) → history the_language (records s.found) ≡ Ok st → st.config.outcome ≢ Active → new.deeds ≡ old.deeds
+  pub finished : (st : Standing) → IsLineOf s (λ c. c ≡ Resume) → end.found_by the_language Resume (records s.found) ≡ Ok st → st.config.outcome ≢ Active → new.deeds ≡ old.deeds
 
 -- ## Telling of a history
 -- the text of a history that leads to this configuration, under `show` and `log`
@@ -261,7 +261,7 @@ SaysStanding waits said o done = SaysOutcome said o ⊎ ((o ≡ Active) × (poll
 -- what is said is what the history of the file comes to, and a crash leaves just this
 pub record SaysHistory (L : Language) (waits : ℕ) (new : World) (done : List Deed) (said : Said) : Type 0 where
   pub standing : Standing
-  pub history : history L (records new.seen) ≡ Ok standing
+  pub history : opens L (records new.seen) ≡ Ok standing
   pub says : SaysStanding waits said standing.config.outcome done
   pub settled : Only new.seen new.may_leave
 
@@ -294,7 +294,7 @@ pub record Worked (O : Outside) (s : Scene) (old new : World) (r : Result Said S
   pub gives : IfOk r (λ said. (image : List ℕ) → new.may_leave image → MayPrint the_language s image silently.done said.status said.text.items)
   pub ends : IfOk r (λ said. MayEndNow the_language O s old new said.status)
   pub late : IfOk r (λ said. IsBehindSync s said.status → LateNow the_language O s old new)
-  pub finished : (st : Standing) → IsLineOf s (λ c. c ≡ Resume) → history the_language (records s.found) ≡ Ok st → st.config.outcome ≢ Active → Unwritten old new × (new.deeds ≡ old.deeds)
+  pub finished : (st : Standing) → IsLineOf s (λ c. c ≡ Resume) → end.found_by the_language Resume (records s.found) ≡ Ok st → st.config.outcome ≢ Active → Unwritten old new × (new.deeds ≡ old.deeds)
   pub refused : HasOtherMagic s ⊎ IsStarted s ⊎ IsNotStarted s ⊎ ((n : ℕ) × IsNoHistory the_language s n) → Unwritten old new × AllByRecursion IsSmall silently.done
   pub writes : Unwritten old new ⊎ MayWrite s
   pub idle : ¬ MayWrite s → new.deeds ≡ old.deeds

@@ -7,7 +7,7 @@ use Rattle.wf_cli.specs.Reports.{the_reports}
 use Rattle.wf_deeds.specs.Deeds.{IsSmall, polls}
 use Rattle.wf_host.specs.Printing.{AllPrints, printed}
 use Rattle.wf_engine.specs.Printed as end
-use Rattle.wf_engine.specs.Printed.{Scene, uses_source, executes, status_of, outcome_text, accepted_text, uses_journal, tells_history}
+use Rattle.wf_engine.specs.Printed.{Scene, found_by, uses_source, executes, status_of, outcome_text, accepted_text, uses_journal, tells_history}
 pub use Rattle.wf_engine.specs.Printed.{IsLine, IsBadLine, IsBadArgument, IsLineOf, IsRefused, IsChecked, HasOtherMagic, IsStarted, IsNotStarted}
 use Rattle.wf_engine.specs.Safe.{IsFit, Since, SafeAt, LateAt}
 use Rattle.wf_engine.specs.TheOutside.{InTheOutside}
@@ -19,7 +19,7 @@ use Rattle.wf_journal.specs.Records.{records}
 use Rattle.wf_args.specs.Lines.{PlainLine, waits_of}
 use Rattle.wf_args.specs.declared.command.Command.TheVariants.{Check, Format, Resume}
 use Rattle.wf_model.specs.Config.{Outcome, Active}
-use Rattle.wf_deeds.specs.History.{Standing, history}
+use Rattle.wf_deeds.specs.History.{Standing}
 use Rattle.wf_deeds.specs.Language.{Language}
 use Rattle.wf_replay.specs.TheLanguage.{the_language}
 use Rattle.wf_source.specs.Sources.{read_tree}
@@ -288,7 +288,7 @@ module _ (x : Call) where
 module _ (L : Language) (x : Call) where
   -- a finished journal isn't written, and nothing but prints is done
   abbrev pub FinishedStays : Type 0
-  FinishedStays = (s : Standing) → IsLineOf x.scene (λ c. c ≡ Resume) → history L (records x.scene.found) ≡ Ok s → s.config.outcome ≢ Active → OnlyPrints x
+  FinishedStays = (s : Standing) → IsLineOf x.scene (λ c. c ≡ Resume) → found_by L Resume (records x.scene.found) ≡ Ok s → s.config.outcome ≢ Active → OnlyPrints x
 
   -- a journal that is refused isn't written, and nothing but prints and readings of the clock is done
   abbrev pub RefusedStays : Type 0

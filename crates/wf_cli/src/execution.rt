@@ -9,9 +9,9 @@ ghost use Rattle.wf_engine.specs.Engine.{memory, is_closed, Holds};
 ghost use Rattle.wf_engine.specs.Safe.{scene};
 ghost use Rattle.wf_engine.specs.Starts.{HasArgument, argument_text, kept_routes, start_of};
 ghost use Rattle.wf_engine.specs.TheOutside.{InTheOutside};
-ghost use Rattle.wf_events.specs.Records.{Started};
 ghost use Rattle.wf_events.specs.Spelling.{record_bytes, route, HasSpelling, IsPair, IsRoute};
 ghost use Rattle.wf_events.specs.View.{route_view, start_view};
+ghost use Rattle.wf_history.specs.Kinds.{first_record};
 ghost use Rattle.wf_host.specs.Source.{Rest, IsFirst};
 ghost use Rattle.wf_host.specs.Calls.{DiskFailed, NoCountFalls, TellsAsBefore};
 ghost use Rattle.wf_host.specs.World.{Told};
@@ -111,8 +111,8 @@ fn start_for(
     requires short { length source.now ≤ 131072 }
     ensures start { IfOk result (λ s. start_view s
         ≡ start_of (plain_line line.now) source.now reading) }
-    ensures spelled { IfOk result (λ s. HasSpelling (Started (start_view s))) }
-    ensures fits { IfOk result (λ s. length (record_bytes (Started (start_view s))) ≤ 16777215) }
+    ensures spelled { IfOk result (λ s. HasSpelling (first_record (start_view s))) }
+    ensures fits { IfOk result (λ s. length (record_bytes (first_record (start_view s))) ≤ 16777215) }
 {
     // laws that the proof uses
     laws_of_starts();

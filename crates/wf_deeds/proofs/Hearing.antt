@@ -19,7 +19,7 @@ use Rattle.wf_deeds.specs.Kept.{IsOpen, Decides, own, reading_of, last_of}
 use Rattle.wf_deeds.specs.Memory.{Owed, Memory, IsAnswerTo, IsOfOutside, session, forgotten, ComesNow, IsAnswerBy, Brings, decided_by, owes_by, arrival_by, visit_by, decision_by}
 use Rattle.wf_deeds.specs.Outside.{Outside, Verdict, Arrives, Refuses}
 use Rattle.wf_deeds.specs.Rules.{IsSent, IsBrought, NoTurnYet, DeedKeepsRules, with_deed}
-use Rattle.wf_deeds.specs.Steps.{weight, VisitsAre, PollIsKept, HearingGoesOn}
+use Rattle.wf_deeds.specs.Steps.{HearingLeadsOn, weight, VisitsAre, PollIsKept, HearingGoesOn}
 use Rattle.wf_host.specs.declared.data.Deed.{Deed}
 use Rattle.wf_host.specs.declared.data.Deed.TheVariants.{Poll}
 use Rattle.wf_host.specs.declared.data.Heard.{Heard}
@@ -212,6 +212,19 @@ poll_is_kept there rules L O command handed m J D until h s settled active may =
       s.clock active,
     )
 
+-- ## Where the records lead
+pub hearing_leads_on : HearingLeadsOn
+hearing_leads_on L m J h told visit undecided taken owed l = record {
+  standing = l.standing;
+  history = l.history;
+  program = l.program;
+  config = l.config;
+  by_now = later_by m.session m.waits l.standing l.by_now;
+  first = l.first;
+  numbered = l.numbered;
+  format = l.format;
+}
+
 pub hearing_goes_on : OneAnswered → HistoryStandsThere → DeedKeepsRules → HearingGoesOn
 hearing_goes_on one_answer there rules L O command handed m J D until h told visit undecided taken owed s settled active may hears =
     let x = session command handed m J D in
@@ -235,7 +248,7 @@ hearing_goes_on one_answer there rules L O command handed m J D until h told vis
     let of_call : (k : ℕ) → call_of w ≡ Some k → IsAnswerBy m k h taken = λ k is. subst (Brings O m h taken) is hears.taken_is in
     record {
       kept = poll_is_kept there rules L O command handed m J D until h s settled active may;
-      leads = record { standing = s.leads.standing; history = s.leads.history; program = s.leads.program; config = s.leads.config; by_now = later_by m.session m.waits s.leads.standing s.leads.by_now; first = s.leads.first; numbered = s.leads.numbered };
+      leads = hearing_leads_on L m J h told visit undecided taken owed s.leads;
       waits = omega (arith, count, s.waits);
       reading = ap (λ r. max r h.reading) s.reading ∙ sym (polled (last_of (config_before (journal L J) m.session)) D until h m.waits s.waits);
       last = let le = s.last in omega (arith, le);

@@ -14,8 +14,12 @@ mod Choosing
 mod Ends
 mod Moments
 mod Handed
+mod Computed
+mod Complete
 mod Histories
-mod HistoryMoments
+mod FirstFormat
+pub mod Playing
+pub mod HistoryMoments
 mod Runs
 pub mod Steps
 mod TheOutside

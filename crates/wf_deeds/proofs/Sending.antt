@@ -126,7 +126,7 @@ start_goes_on hears there rules L O command handed m J D k to bytes started told
         s.answers settled.taken,
         s.clock active,
       );
-      leads = record { standing = s.leads.standing; history = s.leads.history; program = s.leads.program; config = s.leads.config; by_now = s.leads.by_now; first = s.leads.first; numbered = s.leads.numbered };
+      leads = record { standing = s.leads.standing; history = s.leads.history; program = s.leads.program; config = s.leads.config; by_now = s.leads.by_now; first = s.leads.first; numbered = s.leads.numbered; format = s.leads.format };
       waits = s.waits ∙ sym (still_polls L O command handed m J D s d tt refl);
       reading = still_reading L O command handed m J D s d tt refl;
       last = s.last;
@@ -163,7 +163,7 @@ drop_goes_on there rules L O command handed m J D k dropped s settled timed is =
     let replies = replies_with L O x d tt (s.replies settled.owed) in
     record {
       kept = rules L O x d s.kept refl (λ c at. let same : Some m.config ≡ Some c = sym (stands_at there L O command handed m J D s) ∙ at in let one : m.config ≡ c = cc same in subst (λ b. ¬ IsOpen b k) one (not_open m.config k timed));
-      leads = record { standing = s.leads.standing; history = s.leads.history; program = s.leads.program; config = s.leads.config; by_now = s.leads.by_now; first = s.leads.first; numbered = s.leads.numbered };
+      leads = record { standing = s.leads.standing; history = s.leads.history; program = s.leads.program; config = s.leads.config; by_now = s.leads.by_now; first = s.leads.first; numbered = s.leads.numbered; format = s.leads.format };
       waits = s.waits ∙ sym (still_polls L O command handed m J D s d tt refl);
       reading = still_reading L O command handed m J D s d tt refl;
       last = s.last;
@@ -238,7 +238,7 @@ reply_goes_on there rules L O command handed m J D o s untaken waiting =
             let (t, stands) = s.arrival o e r waiting is in
             (t, ⊎_elim (λ has. absurd (let f : None ≡ Some (plain.Arrive e t r) = sym untaken ∙ has in cc f)) (λ first. first) stands);
       });
-      leads = record { standing = s.leads.standing; history = s.leads.history; program = s.leads.program; config = s.leads.config; by_now = s.leads.by_now; first = s.leads.first; numbered = s.leads.numbered };
+      leads = record { standing = s.leads.standing; history = s.leads.history; program = s.leads.program; config = s.leads.config; by_now = s.leads.by_now; first = s.leads.first; numbered = s.leads.numbered; format = s.leads.format };
       waits = s.waits ∙ sym (still_polls L O command handed m J D s d tt refl);
       reading = still_reading L O command handed m J D s d tt refl;
       last = s.last;
@@ -282,7 +282,7 @@ print_goes_on rules L O command handed m J D text s untaken unowed =
     let replies = replies_with L O x d tt (s.replies unowed) in
     record {
       kept = rules L O x d s.kept refl tt;
-      leads = record { standing = s.leads.standing; history = s.leads.history; program = s.leads.program; config = s.leads.config; by_now = s.leads.by_now; first = s.leads.first; numbered = s.leads.numbered };
+      leads = record { standing = s.leads.standing; history = s.leads.history; program = s.leads.program; config = s.leads.config; by_now = s.leads.by_now; first = s.leads.first; numbered = s.leads.numbered; format = s.leads.format };
       waits = s.waits ∙ sym (still_polls L O command handed m J D s d tt refl);
       reading = still_reading L O command handed m J D s d tt refl;
       last = s.last;

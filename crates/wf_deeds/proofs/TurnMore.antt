@@ -14,7 +14,7 @@ use Rattle.wf_deeds.specs.Kept.{Session, Place, StandsFirst, own, config, readin
 use Rattle.wf_deeds.specs.Outside.{Outside, Arrives}
 use Rattle.wf_deeds.specs.Rules.{with_record, IsBrought, IsOwn, AreBrought, TurnKeepsRules}
 use Rattle.wf_events.specs.Reading.{meaning}
-use Rattle.wf_events.specs.Records.{Turned}
+use Rattle.wf_history.specs.Kinds.{turn_in}
 use Rattle.wf_host.specs.declared.data.Deed.{Deed}
 use Rattle.wf_host.specs.declared.data.Deed.TheVariants.{Start, Poll, Reply, Drop}
 use Rattle.wf_host.specs.declared.data.Heard.{Heard}
@@ -45,7 +45,7 @@ stands_behind number w t session lt = never (is_before number w t) (λ is. ⊎_e
     (one_of (nat_lt t.session number) (nat_eq t.session number && nat_le t.waits w) is))
 
 -- ## What a turn more leaves as it was
-module _ (laws : Journals) (L : Language) (O : Outside) (x : Session) (payload : List ℕ) (j : Journal) (t : Turn) (is_j : journal L x.payloads ≡ Some j) (means : meaning payload ≡ Some (Turned t)) (of_session : t.session ≡ x.number) (of_waits : t.waits ≡ polls x.deeds) where
+module _ (laws : Journals) (L : Language) (O : Outside) (x : Session) (payload : List ℕ) (j : Journal) (t : Turn) (is_j : journal L x.payloads ≡ Some j) (means : turn_in (meaning payload) ≡ Some t) (of_session : t.session ≡ x.number) (of_waits : t.waits ≡ polls x.deeds) where
   pub own_more : own L O (with_record x payload) ≡ own L O x ++ t ∷ []
   own_more =
       ap (λ o. session_turns o x.number) (laws.added L x.payloads payload j t is_j means)

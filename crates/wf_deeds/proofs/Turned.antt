@@ -1,5 +1,5 @@
 -- What an engine stands for with a turn more.
-use Rattle.std.specs.Prelude.{◌≡◌, ◌≢◌, ◌⊎◌, ◌≤◌, ◌<◌, ◌&&◌, ◌||◌, ℕ, suc, true, false, IsTrue, nat_eq, nat_le, nat_lt, if◌then◌else◌, List, [], ◌∷◌, ◌++◌, All, Option, Some, None}
+use Rattle.std.specs.Prelude.{◌≡◌, ◌≢◌, ◌⊎◌, ◌≤◌, ◌<◌, ◌&&◌, ◌||◌, ℕ, suc, Bool, true, false, not, IsTrue, nat_eq, nat_le, nat_lt, if◌then◌else◌, List, [], ◌∷◌, ◌++◌, All, Option, Some, None}
 use Rattle.std.specs.List.{AllByRecursion}
 use Rattle.std.proofs.Common.{inl, inr, ⊎_elim, refl, sym, ◌∙◌, ap, subst, arith}
 use Rattle.std.proofs.lemmas.Bool.{and_from, eq-eqb, eqb-true, le-leb, or_right}
@@ -18,8 +18,9 @@ use Rattle.wf_deeds.specs.Kept.{Session, StandsFirst, IsOpen, Answers, AnsweredA
 use Rattle.wf_deeds.specs.Memory.{Memory, IsAnswerTo, IsOfOutside, session}
 use Rattle.wf_deeds.specs.Outside.{Outside, Verdict, Arrives}
 use Rattle.wf_deeds.specs.Rules.{IsSent, IsBrought, IsOwn, AreBrought, NoTurnYet, TurnKeepsRules, with_record}
-use Rattle.wf_deeds.specs.Steps.{TurnGoesOn, turn_of_memory, with_taken}
+use Rattle.wf_deeds.specs.Steps.{TurnLeadsOn, TurnGoesOn, turn_of_memory, with_taken}
 use Rattle.wf_events.specs.Reading.{meaning}
+use Rattle.wf_history.specs.Kinds.{turn_in}
 use Rattle.wf_host.specs.declared.data.Deed.{Deed}
 use Rattle.wf_host.specs.declared.data.Deed.TheVariants.{Start, Poll, Now, Reply, Drop, Print}
 use Rattle.wf_host.specs.declared.data.Heard.{Heard}
@@ -30,7 +31,7 @@ use Rattle.wf_model.specs.Run.{run_on}
 use Rattle.wf_model.specs.RunLaws.{NothingFollowsAnOutcome}
 use Rattle.wf_model.specs.Step.{next}
 use Rattle.wf_deeds.specs.At.{Journal, config_at, journal}
-use Rattle.wf_deeds.specs.History.{Standing, goes_on, goes_on_at, is_numbered, led, turned as turned_by}
+use Rattle.wf_deeds.specs.History.{Standing, goes_on, goes_on_at, is_numbered, led, only, turned as turned_by}
 use Rattle.wf_deeds.specs.Language.{Language}
 use Rattle.wf_deeds.specs.HistoryLaws.{RecordGoesOn}
 use Rattle.wf_deeds.specs.Moments.{HistoryStandsThere, is_by}
@@ -49,7 +50,7 @@ pub record Laws : Type 0 where
 
 -- ## Where it leads
 abbrev behind : Standing → Memory → Config → Standing
-behind s m c = record { program = s.program; config = c; number = suc s.number; session = m.session; waits = m.waits }
+behind s m c = record s { config = c; number = suc s.number; session = m.session; waits = m.waits; marks = true }
 
 goes : (s : Standing) (m : Memory) (es : List Event) (c : Config) → s.program ≡ m.program → s.config ≡ m.config → IsTrue (is_by m.session m.waits s) → 1 ≤ m.session → m.session ≤ s.number → run_on m.program (To m.config) es ≡ To c
     → turned_by s (turn_of_memory m es) ≡ Some (behind s m c)
@@ -198,6 +199,22 @@ answered_open laws m es c k rest (Some (plain.Due b r)) to_it still go leads = a
 answered_open laws m es c k rest (Some (plain.Arrive n r v)) to_it still go leads = absurd to_it
 answered_open laws m es c k rest (Some (plain.Cancel r)) to_it still go leads = absurd to_it
 
+-- where it leads
+pub turn_leads_on : RecordGoesOn → TurnLeadsOn
+turn_leads_on law L m J payload es c lead means leads =
+    let goes_there : goes_on L lead.standing (meaning payload) ≡ Some (behind lead.standing m c) =
+    ap (λ r. goes_on L lead.standing r) means ∙ ap (λ (two : Bool). only (not two) (turned_by lead.standing (turn_of_memory m es))) lead.format ∙ goes lead.standing m es c lead.program lead.config lead.by_now lead.first lead.numbered leads in
+    record {
+      standing = behind lead.standing m c;
+      history = law L J payload lead.standing (behind lead.standing m c) lead.history goes_there;
+      program = lead.program;
+      config = refl;
+      by_now = by_itself m.session m.waits;
+      first = lead.first;
+      numbered = let le = lead.numbered in omega (arith, le);
+      format = lead.format;
+    }
+
 -- ## The law
 pub turn_goes_on : Laws → TurnGoesOn
 turn_goes_on laws L O command handed m J D payload es c s chosen some means =
@@ -207,13 +224,12 @@ turn_goes_on laws L O command handed m J D payload es c s chosen some means =
     let lead = s.leads in
     let (j, is_j) = some_journal (journal L J) m.session m.waits lead.standing.config (laws.there L J lead.standing m.session m.waits lead.history lead.by_now) in
     let active = goes_on_active laws.nothing m.program m.config c es some chosen.leads in
-    let own_is = own_more laws.journals L O x payload j t is_j means refl s.waits in
-    let before_is = before_stays laws.journals L O x payload j t is_j means refl s.waits in
-    let config_is = config_stays laws.journals L O x payload j t is_j means refl s.waits in
-    let stand = first_stays laws.journals L O x payload j t is_j means refl s.waits in
+    let is_turn = ap turn_in means in
+    let own_is = own_more laws.journals L O x payload j t is_j is_turn refl s.waits in
+    let before_is = before_stays laws.journals L O x payload j t is_j is_turn refl s.waits in
+    let config_is = config_stays laws.journals L O x payload j t is_j is_turn refl s.waits in
+    let stand = first_stays laws.journals L O x payload j t is_j is_turn refl s.waits in
     let calls = laws.calls m.program m.config c es chosen.leads in
-    let goes_there : goes_on lead.standing (meaning payload) ≡ Some (behind lead.standing m c) =
-    ap (λ r. goes_on lead.standing r) means ∙ goes lead.standing m es c lead.program lead.config lead.by_now lead.first lead.numbered chosen.leads in
     let unsent : (before after : List Deed) (d : Deed) → D ≡ before ++ d ∷ after → IsSent L O x d → polls before < polls D = λ before after d comes sent.
     below (polls before) (polls D) (front_polls D before after d comes) (λ same. some (chosen.settled (s.settled before after d comes sent same))) in
     let ahead : (before after : List Deed) (until : ℕ) (h : Heard) → D ≡ before ++ Poll until h ∷ after → polls before < polls D = λ before after until h comes.
@@ -226,7 +242,7 @@ turn_goes_on laws L O command handed m J D payload es c s chosen some means =
       place = record { earlier = own L O x; later = []; turn = refl; front = []; back = chosen.rest; event = chosen.events ∙ ap (λ o. with_taken o chosen.rest) has };
       first = record { of_turn = refl; of_waits = subst (λ n. All (λ (u : Turn). u.waits ≢ n) (own L O x)) (sym s.waits) yet };
     }) in
-    let kept = laws.rules L O x payload j t s.kept refl is_j means (record {
+    let kept = laws.rules L O x payload j t s.kept refl is_j is_turn (record {
       session = refl;
       waits = s.waits;
       brought = subst (λ l. AreBrought L O x l) (sym chosen.events)
@@ -240,15 +256,7 @@ turn_goes_on laws L O command handed m J D payload es c s chosen some means =
     }) in
     record {
       kept = kept;
-      leads = record {
-        standing = behind lead.standing m c;
-        history = laws.goes_on L J payload lead.standing (behind lead.standing m c) lead.history goes_there;
-        program = lead.program;
-        config = refl;
-        by_now = by_itself m.session m.waits;
-        first = lead.first;
-        numbered = let le = lead.numbered in omega (arith, le);
-      };
+      leads = turn_leads_on laws.goes_on L m J payload es c s.leads means chosen.leads;
       waits = s.waits;
       reading = s.reading ∙ ap (λ b. reading_by (last_of b) D m.waits) (sym before_is);
       last = chosen.last;

@@ -1,16 +1,13 @@
 -- A session has no more polls than idle ones and events, and a journal has few events.
-use Rattle.std.specs.Prelude.{◌≡◌, ◌≤◌, ◌<◌, ◌+◌, ℕ, zero, suc, Bool, false, true, ◌||◌, nat_eq, if◌then◌else◌, List, [], ◌∷◌, length, map, Some}
+use Rattle.std.specs.Prelude.{◌≡◌, ◌≤◌, ◌<◌, ◌+◌, ℕ, zero, suc, Bool, false, true, ◌||◌, nat_eq, if◌then◌else◌, List, [], ◌∷◌, length}
 use Rattle.std.proofs.Common.{refl, ap, ◌∙◌, arith}
 use Rattle.std.proofs.lemmas.Bool.{eqb-true}
 use Rattle.std.proofs.lemmas.List.{length-append}
-use Rattle.wf_deeds.proofs.HistoryMoments.{turns_are, journal_of}
-use Rattle.wf_deeds.specs.At.{journal, of_session, session_turns, turns_in, with_turn}
-use Rattle.wf_deeds.specs.History.{History, events}
+use Rattle.wf_deeds.proofs.HistoryMoments.{turns_of_history, journal_of}
+use Rattle.wf_deeds.specs.At.{journal, of_session, session_turns}
+use Rattle.wf_deeds.specs.History.{History, events, turns_of}
 use Rattle.wf_deeds.specs.Language.{Language}
 use Rattle.wf_deeds.specs.Waits.{brings, is_busy, idle, arrivals_in, SessionsWaitIdly}
-use Rattle.wf_events.specs.Reading.{meaning}
-use Rattle.wf_events.specs.Records.{Started, Turned}
-use Rattle.wf_lemmas.proofs.Lists.{same_head, same_tail}
 use Rattle.wf_model.proofs.Walk.{bool_case}
 use Rattle.wf_model.specs.Config.{Config}
 use Rattle.wf_model.specs.CountLaws.{arrivals, RunsAreShort}
@@ -86,16 +83,13 @@ module _ (short : RunsAreShort) (L : Language) where
   idly : (b : List ℕ) (bs : List (List ℕ)) (c : Config) → History L (b ∷ bs) c → (session w : ℕ) → w ≤ idle (session_turns (journal L (b ∷ bs)) session) w + 300001 + arrivals_in (b ∷ bs)
   idly b bs c h session w =
       let is = journal_of L b bs c h in
-      let first = same_head (meaning b) (Some (Started h.start)) (map meaning bs) (map (λ t. Some (Turned t)) h.turns) h.meanings in
-      let later = same_tail (meaning b) (Some (Started h.start)) (map meaning bs) (map (λ t. Some (Turned t)) h.turns) h.meanings in
-      let turns = turns_are bs h.turns later in
-      let own : session_turns (journal L (b ∷ bs)) session ≡ of_session session h.turns = ap (λ j. session_turns j session) is in
-      let all : turns_in (b ∷ bs) ≡ h.turns = ap (λ r. with_turn r (turns_in bs)) first ∙ turns in
-      let came : arrivals_in (b ∷ bs) ≡ arrivals (events h.turns) = ap (λ ts. arrivals (events ts)) all in
-      let idle_is : idle (session_turns (journal L (b ∷ bs)) session) w ≡ idle (of_session session h.turns) w = ap (λ ts. idle ts w) own in
-      let polled = polls_or_events (of_session session h.turns) w in
-      let fewer = fewer_own session h.turns in
-      let few = short h.program h.start (events h.turns) c h.one_run in
+      let own : session_turns (journal L (b ∷ bs)) session ≡ of_session session (turns_of h.rest) = ap (λ j. session_turns j session) is in
+      let all = turns_of_history L (b ∷ bs) c h in
+      let came : arrivals_in (b ∷ bs) ≡ arrivals (events (turns_of h.rest)) = ap (λ ts. arrivals (events ts)) all in
+      let idle_is : idle (session_turns (journal L (b ∷ bs)) session) w ≡ idle (of_session session (turns_of h.rest)) w = ap (λ ts. idle ts w) own in
+      let polled = polls_or_events (of_session session (turns_of h.rest)) w in
+      let fewer = fewer_own session (turns_of h.rest) in
+      let few = short h.program h.start (events (turns_of h.rest)) c h.one_run in
       omega (arith, came, idle_is, polled, fewer, few)
 
   idly_by : (J : List (List ℕ)) (c : Config) → History L J c → (session w : ℕ) → w ≤ idle (session_turns (journal L J) session) w + 300001 + arrivals_in J

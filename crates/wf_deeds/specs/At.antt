@@ -3,13 +3,15 @@
 --     config_at      after the turns of earlier sessions, and those of a session up to a count of waits
 --     config_before  after the turns of earlier sessions alone
 --     applied_by     how many events the turns among some payloads have
-use Rattle.std.specs.Prelude.{ℕ, suc, nat_eq, nat_lt, if◌then◌else◌, List, [], ◌∷◌, ◌++◌, length, Option, Some, None, option_map}
+--     to_apply       how many of them are applied where the payloads are opened
+use Rattle.std.specs.Prelude.{ℕ, suc, Bool, nat_eq, nat_lt, if◌then◌else◌, List, [], ◌∷◌, ◌++◌, length, Option, Some, None, option_map}
 use Rattle.wf_ast.specs.Tree.{Program}
 use Rattle.wf_events.specs.Reading.{meaning}
-use Rattle.wf_events.specs.Records.{Record, Started, Turned}
+use Rattle.wf_events.specs.Records.{Record, Turned, Packed}
+use Rattle.wf_history.specs.Kinds.{start_of_record, turn_in}
 use Rattle.wf_model.specs.Config.{Config, After, To, Wrong, NotNow}
 use Rattle.wf_model.specs.Run as run
-use Rattle.wf_deeds.specs.History.{events}
+use Rattle.wf_deeds.specs.History.{events, may_stand, with_turn}
 use Rattle.wf_deeds.specs.Language.{Language}
 use Rattle.wf_value.specs.Events.{Event, Start, Turn}
 
@@ -19,26 +21,32 @@ pub record Journal : Type 0 where
   pub turns : List Turn
 
 -- the turns among some payloads
-abbrev pub with_turn : Option Record → List Turn → List Turn
-with_turn (Some (Turned t)) ts = t ∷ ts
-with_turn r ts = ts
-
 abbrev pub turns_in : List (List ℕ) → List Turn
 turns_in [] = []
-turns_in (b ∷ bs) = with_turn (meaning b) (turns_in bs)
+turns_in (b ∷ bs) = with_turn (turn_in (meaning b)) (turns_in bs)
 
 -- the events of a record: those of its turn
 abbrev pub events_of : Record → List Event
 events_of (Turned t) = t.events
+events_of (Packed t) = t.events
 events_of r = []
 
 -- how many events the turns among some payloads have
 abbrev pub applied_by : List (List ℕ) → ℕ
 applied_by bs = length (events (turns_in bs))
 
+-- how many events are applied where these records are opened: all of them
+abbrev pub to_apply : List (List ℕ) → ℕ
+to_apply J = applied_by J
+
+-- by a start, and whether it is of the second format
+abbrev pub begun : Language → Option (Start × Bool) → List Turn → Option Journal
+begun L None ts = None
+begun L (Some x) ts = if may_stand L x then option_map (λ p. record { start = x.0; program = p; turns = ts }) (L.source x.0.source) else None
+
 abbrev pub begins : Language → Option Record → List Turn → Option Journal
-begins L (Some (Started s)) ts = option_map (λ p. record { start = s; program = p; turns = ts }) (L.source s.source)
-begins L r ts = None
+begins L None ts = None
+begins L (Some r) ts = begun L (start_of_record r) ts
 
 -- none where there is no first record, or it begins no history
 abbrev pub journal : Language → List (List ℕ) → Option Journal

@@ -1,6 +1,6 @@
 -- The clauses of an engine's calls, over its memory and the host before and behind a call.
 --     Went            the engine stands for each list for which it stood, with the call's own deeds
---     IsOfSession     a record that is no turn of another session
+--     AreAdded        records that a session adds
 --     KeptAt          a moment of a call: a history under the rules, and at most so many polls
 --     AddsTurn, SendsOpen, Takes, Sessions    what the calls do besides
 use Rattle.std.specs.Prelude.{◌≡◌, ◌≢◌, ◌⊎◌, ◌≤◌, ◌&&◌, ℕ, zero, suc, Bool, true, false, not, IsTrue, is_some, if◌then◌else◌, List, [], ◌∷◌, ◌++◌, length, Option, Some, None}
@@ -8,12 +8,11 @@ use Rattle.std.specs.List.{AllByRecursion}
 use Rattle.wf_deeds.specs.Deeds.{polls}
 use Rattle.wf_host.specs.Printing.{printed}
 use Rattle.wf_deeds.specs.Kept.{Command, Kept, Resume}
-use Rattle.wf_deeds.specs.Memory.{Owed, Memory, IsSettled, AllIsSent, StandsFor, session}
+use Rattle.wf_deeds.specs.Memory.{Owed, LeadsTo, Memory, IsSettled, AllIsSent, StandsFor, session}
 use Rattle.wf_deeds.specs.Outside.{Outside, code_of}
 use Rattle.wf_deeds.specs.Steps.{MayWait}
 use Rattle.wf_deeds.specs.Turns.{turn_of}
 use Rattle.wf_events.specs.Reading.{meaning}
-use Rattle.wf_events.specs.Records.{Turned}
 use Rattle.wf_events.specs.Spelling.{record_bytes}
 use Rattle.wf_host.specs.World.{World, LeavesOnly}
 use Rattle.wf_host.specs.declared.data.Address.{Address}
@@ -26,20 +25,25 @@ use Rattle.wf_model.specs.Config.{Call, TimedOut, Active}
 use Rattle.wf_model.specs.Ready.{call, quiet, request_of}
 use Rattle.wf_deeds.specs.Language.{Language}
 use Rattle.wf_deeds.specs.HistoryLaws.{IsHistory}
+use Rattle.wf_history.specs.Kinds.{added_record, turn_in}
 use Rattle.wf_value.specs.Events.{Event, Turn}
 use Rattle.wf_value.specs.HttpText.{reply_bytes}
 
 -- ## Moments
 -- a turn that the record means is of this session
 abbrev pub IsOfSession : ℕ → List ℕ → Type 0
-IsOfSession number payload = (t : Turn) → meaning payload ≡ Some (Turned t) → t.session ≡ number
+IsOfSession number payload = (t : Turn) → turn_in (meaning payload) ≡ Some t → t.session ≡ number
+
+-- what a session adds behind these records: each turn is its own
+abbrev pub AreAdded : Language → List (List ℕ) → ℕ → List (List ℕ) → Type 0
+AreAdded L before number added = AllByRecursion (IsOfSession number) added
 
 -- at a moment of a call that polls at most so often: a history that goes on from the records before, under the rules, with the deeds of the
 -- call behind those before
 pub record KeptAt (L : Language) (O : Outside) (command : Command) (handed : Bool) (m : Memory) (most : ℕ) (before : List (List ℕ)) (D : List Deed) (J : List (List ℕ)) (E : List Deed) : Type 0 where
   pub added : List (List ℕ)
   pub records : J ≡ before ++ added
-  pub own : AllByRecursion (IsOfSession m.session) added
+  pub own : AreAdded L before m.session added
   pub history : IsHistory L J
   pub kept : Kept L O (session command handed m J (D ++ E))
   -- nothing was printed
@@ -60,12 +64,14 @@ KeptThroughout L O m old new = KeptWithin L O 0 m old new
 pub record Went (L : Language) (O : Outside) (m n : Memory) (old new : World) (done : List Deed) : Type 0 where
   pub deeds : new.deeds ≡ old.deeds ++ done
   pub stands : (command : Command) (handed : Bool) (D : List Deed) → StandsFor L O command handed m (records old.seen) D → StandsFor L O command handed n (records new.seen) (D ++ done)
+  -- and where the records led to it they lead to it still
+  pub leads : LeadsTo L (records old.seen) m → LeadsTo L (records new.seen) n
 
 -- ## Turns
 -- the record of a turn of the session, and none where it has no event
 abbrev pub turn_records : ℕ → ℕ → List Event → List (List ℕ)
 turn_records session waits [] = []
-turn_records session waits (e ∷ es) = record_bytes (Turned (record { session = session; waits = waits; events = e ∷ es })) ∷ []
+turn_records session waits (e ∷ es) = record_bytes (added_record (record { session = session; waits = waits; events = e ∷ es })) ∷ []
 
 -- the reply that a visit waits for
 abbrev pub replies_of : Option Owed → List Deed
@@ -122,6 +128,7 @@ pub record SendsOpen (L : Language) (O : Outside) (m n : Memory) (old new : Worl
 pub record Takes (L : Language) (O : Outside) (m n : Memory) (heard : Heard) : Type 0 where
   pub stands : (command : Command) (handed : Bool) (J : List (List ℕ)) (D : List Deed) (until : ℕ) → StandsFor L O command handed m J D → MayWait handed m until
       → StandsFor L O command handed n J (D ++ Poll until heard ∷ [])
+  pub leads : (J : List (List ℕ)) → LeadsTo L J m → LeadsTo L J n
   pub waits : n.waits ≡ suc m.waits
 
 -- what is open is sent, and then one poll is made
@@ -143,16 +150,18 @@ pub record Sessions (L : Language) (O : Outside) (suspended : Bool) (bound : ℕ
   pub settled : IsSettled n
 
 -- ## Opening
--- an opened engine: with an outcome it has done nothing, and else it has read the clock once
+-- an opened engine: the records lead to it, and where they are a history it stands for them; with an outcome it has done nothing, and else it has
+-- read the clock once
 pub record Opened (L : Language) (O : Outside) (m : Memory) (old new : World) : Type 0 where
   pub done : List Deed
   pub deeds : new.deeds ≡ old.deeds ++ done
-  pub stands : (handed : Bool) → StandsFor L O Resume handed m (records new.seen) done
+  pub leads : LeadsTo L (records new.seen) m
+  pub stands : IsHistory L (records new.seen) → (handed : Bool) → StandsFor L O Resume handed m (records new.seen) done
   pub clock : ((m.config.outcome ≢ Active) × (done ≡ [])) ⊎ ((m.config.outcome ≡ Active) × ((t : ℕ) × (done ≡ Now t ∷ [])))
 
 -- ## The law of moments
 -- with turns of the session and deeds that print nothing and poll no more often, behind the records before, what an engine stands for is kept
 abbrev pub StandsIsKept : Type 0
 StandsIsKept = (L : Language) (O : Outside) (command : Command) (handed : Bool) (m n : Memory) (most : ℕ) (before added : List (List ℕ)) (D E : List Deed)
-    → StandsFor L O command handed n (before ++ added) (D ++ E) → n.session ≡ m.session → AllByRecursion (IsOfSession m.session) added → printed E ≡ [] → polls E ≤ most
+    → StandsFor L O command handed n (before ++ added) (D ++ E) → n.session ≡ m.session → AreAdded L before m.session added → printed E ≡ [] → polls E ≤ most
     → KeptAt L O command handed m most before D (before ++ added) E

@@ -15,4 +15,6 @@ pub mod Language
 pub mod History
 pub mod At
 pub mod HistoryLaws
+pub mod FirstFormat
+pub mod FormatRows
 pub mod Moments

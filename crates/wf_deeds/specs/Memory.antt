@@ -14,7 +14,7 @@ use Rattle.wf_host.specs.declared.data.What.{What}
 use Rattle.wf_model.specs.Config.{TimedOut, Config, Active}
 use Rattle.wf_model.specs.Ready.{call, quiet, request_of}
 use Rattle.wf_deeds.specs.At.{journal, config_before}
-use Rattle.wf_deeds.specs.History.{Standing, history as history_of}
+use Rattle.wf_deeds.specs.History.{Standing, opens}
 use Rattle.wf_deeds.specs.Language.{Language}
 use Rattle.wf_deeds.specs.Moments.{is_by}
 use Rattle.wf_value.specs.Events as plain
@@ -62,15 +62,17 @@ pub record AllIsSent (m : Memory) : Type 0 where
 abbrev pub session : Command → Bool → Memory → List (List ℕ) → List Deed → Session
 session command handed m J D = record { payloads = J; number = m.session; deeds = D; command = command; end = None; handed = handed }
 
--- the records are a history that leads to the program and the configuration, and the session may add its next turn
+-- the records open, and lead to the program and the configuration, and the session may add its next turn
 pub record LeadsTo (L : Language) (J : List (List ℕ)) (m : Memory) : Type 0 where
   pub standing : Standing
-  pub history : history_of L J ≡ Ok standing
+  pub history : opens L J ≡ Ok standing
   pub program : standing.program ≡ m.program
   pub config : standing.config ≡ m.config
   pub by_now : IsTrue (is_by m.session m.waits standing)
   pub first : 1 ≤ m.session
   pub numbered : m.session ≤ standing.number
+  -- they are of the first format, as what is added is
+  pub format : standing.two ≡ false
 
 -- a visit without what it asked, once it is decided
 abbrev pub forgotten : Visit → Visit

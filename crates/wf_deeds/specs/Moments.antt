@@ -1,7 +1,7 @@
 -- Laws of the configuration at a moment, as they stand in the contract of `laws_of_moments`.
 use Rattle.std.specs.Prelude.{◌≡◌, ◌<◌, ◌≤◌, ◌&&◌, ◌||◌, ℕ, suc, Bool, false, IsTrue, nat_eq, nat_le, nat_lt, List, [], ◌∷◌, ◌++◌, length, Some, Ok}
 use Rattle.wf_events.specs.Reading.{meaning}
-use Rattle.wf_events.specs.Records.{Turned}
+use Rattle.wf_history.specs.Kinds.{turn_in}
 use Rattle.wf_model.specs.Run.{is_before}
 use Rattle.wf_deeds.specs.At.{Journal, config_at, config_before, journal, next_session, session_turns}
 use Rattle.wf_deeds.specs.History.{Standing, history}
@@ -15,7 +15,7 @@ with_turn_more j t = record { start = j.start; program = j.program; turns = j.tu
 -- ## A turn more
 -- a record more that is a turn stands behind all others
 abbrev pub TurnIsAdded : Type 0
-TurnIsAdded = (L : Language) (J : List (List ℕ)) (payload : List ℕ) (j : Journal) (t : Turn) → journal L J ≡ Some j → meaning payload ≡ Some (Turned t) → journal L (J ++ payload ∷ []) ≡ Some (with_turn_more j t)
+TurnIsAdded = (L : Language) (J : List (List ℕ)) (payload : List ℕ) (j : Journal) (t : Turn) → journal L J ≡ Some j → turn_in (meaning payload) ≡ Some t → journal L (J ++ payload ∷ []) ≡ Some (with_turn_more j t)
 
 -- it changes nothing before its session, nor before an earlier one
 abbrev pub SessionBeforeStays : Type 0

@@ -8,7 +8,7 @@ use Rattle.wf_deeds.specs.Deeds.{polls, nows, was_replied, before_poll, Decision
 use Rattle.wf_deeds.specs.Kept.{Session, Kept, StandsFirst, IsOpen, reading_of, own, config, reading, Comes, MayStart, MayPoll, MayReply, Answers, AnsweredAt, Decides, DecidedAt}
 use Rattle.wf_deeds.specs.Outside.{Outside, Verdict, Arrives}
 use Rattle.wf_events.specs.Reading.{meaning}
-use Rattle.wf_events.specs.Records.{Turned}
+use Rattle.wf_history.specs.Kinds.{turn_in}
 use Rattle.wf_host.specs.declared.data.Deed.{Deed}
 use Rattle.wf_host.specs.declared.data.Deed.TheVariants.{Start, Poll, Now, Reply, Drop, Print}
 use Rattle.wf_host.specs.declared.data.Heard.{Heard}
@@ -105,7 +105,7 @@ abbrev pub DeedKeepsRules : Type 0
 DeedKeepsRules = (L : Language) (O : Outside) (x : Session) (d : Deed) → Kept L O x → x.end ≡ None → MayDo L O x d → Kept L O (with_deed x d)
 
 abbrev pub TurnKeepsRules : Type 0
-TurnKeepsRules = (L : Language) (O : Outside) (x : Session) (payload : List ℕ) (j : Journal) (t : Turn) → Kept L O x → x.end ≡ None → journal L x.payloads ≡ Some j → meaning payload ≡ Some (Turned t) → MayTurn L O x t
+TurnKeepsRules = (L : Language) (O : Outside) (x : Session) (payload : List ℕ) (j : Journal) (t : Turn) → Kept L O x → x.end ≡ None → journal L x.payloads ≡ Some j → turn_in (meaning payload) ≡ Some t → MayTurn L O x t
     → Kept L O (with_record x payload)
 
 abbrev pub EndKeepsRules : Type 0

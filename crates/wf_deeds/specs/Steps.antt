@@ -11,7 +11,7 @@ use Rattle.wf_deeds.specs.Outside.{Outside, code_of}
 use Rattle.wf_deeds.specs.Rules.{IsOwn, with_end}
 use Rattle.wf_deeds.specs.Turns.{TakeReading, turn_of}
 use Rattle.wf_events.specs.Reading.{meaning}
-use Rattle.wf_events.specs.Records.{Turned}
+use Rattle.wf_history.specs.Kinds.{added_record}
 use Rattle.wf_events.specs.View.{address_view}
 use Rattle.wf_host.specs.declared.data.Address.{Address}
 use Rattle.wf_host.specs.declared.data.Deed.{Deed}
@@ -126,13 +126,24 @@ turn_of_memory m es = record { session = m.session; waits = m.waits; events = es
 
 abbrev pub TurnGoesOn : Type 0
 TurnGoesOn = (L : Language) (O : Outside) (command : Command) (handed : Bool) (m : Memory) (J : List (List ℕ)) (D : List Deed) (payload : List ℕ) (es : List Event) (c : Config)
-    → StandsFor L O command handed m J D → Chooses L O (session command handed m J D) m es c → es ≢ [] → meaning payload ≡ Some (Turned (turn_of_memory m es))
+    → StandsFor L O command handed m J D → Chooses L O (session command handed m J D) m es c → es ≢ [] → meaning payload ≡ Some (added_record (turn_of_memory m es))
     → StandsFor L O command handed (turned m c) (J ++ payload ∷ []) D
 
 -- and the engine's own: what was taken, and then what it chooses until nothing can move
 abbrev pub TurnIsChosen : Type 0
 TurnIsChosen = (L : Language) (O : Outside) (command : Command) (handed : Bool) (m : Memory) (J : List (List ℕ)) (D : List Deed) (es : List Event) (c : Config)
     → StandsFor L O command handed m J D → es ≡ turn_of m.program m.config m.reading m.taken → run_on m.program (To m.config) es ≡ To c → Chooses L O (session command handed m J D) m es c
+
+-- ## Where the records lead
+-- behind such a turn they lead to where it leads
+abbrev pub TurnLeadsOn : Type 0
+TurnLeadsOn = (L : Language) (m : Memory) (J : List (List ℕ)) (payload : List ℕ) (es : List Event) (c : Config)
+    → LeadsTo L J m → meaning payload ≡ Some (added_record (turn_of_memory m es)) → run_on m.program (To m.config) es ≡ To c → LeadsTo L (J ++ payload ∷ []) (turned m c)
+
+-- and to what has heard something as before
+abbrev pub HearingLeadsOn : Type 0
+HearingLeadsOn = (L : Language) (m : Memory) (J : List (List ℕ)) (h : Heard) (told : ℕ → Told) (visit : ℕ → Option Visit) (undecided : ℕ) (taken : Option Event) (owed : Option Owed)
+    → LeadsTo L J m → LeadsTo L J (hearing m h told visit undecided taken owed)
 
 -- ## The beginning
 -- a session that did nothing yet but read the clock

@@ -9,7 +9,7 @@ use Rattle.wf_deeds.specs.Memory.{Memory, Owed, IsSettled, StandsFor, arrival_by
 use Rattle.wf_deeds.specs.Outside.{Outside, code_of}
 use Rattle.wf_deeds.specs.Steps.{Chooses, Hears, MayWait, hearing, replied, turn_of_memory, turned, weight}
 use Rattle.wf_events.specs.Reading.{meaning}
-use Rattle.wf_events.specs.Records.{Turned}
+use Rattle.wf_history.specs.Kinds.{added_record}
 use Rattle.wf_host.specs.World.{call_of, visit_of}
 use Rattle.wf_host.specs.declared.data.Deed.{Deed}
 use Rattle.wf_host.specs.declared.data.Deed.TheVariants.{Poll, Reply}
@@ -70,5 +70,5 @@ VisitGoesOn = (L : Language) (O : Outside) (command : Command) (handed : Bool) (
 -- a turn with an event, and behind it the reply
 abbrev pub TurnReplies : Type 0
 TurnReplies = (L : Language) (O : Outside) (command : Command) (handed : Bool) (m : Memory) (J : List (List ℕ)) (D : List Deed) (payload : List ℕ) (es : List Event) (c : Config) (o : Owed)
-    → StandsFor L O command handed m J D → Chooses L O (session command handed m J D) m es c → es ≢ [] → meaning payload ≡ Some (Turned (turn_of_memory m es)) → m.owed ≡ Some o
+    → StandsFor L O command handed m J D → Chooses L O (session command handed m J D) m es c → es ≢ [] → meaning payload ≡ Some (added_record (turn_of_memory m es)) → m.owed ≡ Some o
     → StandsFor L O command handed (replied (turned m c)) (J ++ payload ∷ []) (D ++ Reply o.visit (reply_bytes (code_of o.verdict)) ∷ [])

@@ -1,11 +1,14 @@
 // Laws of histories.
-ghost use Rattle.wf_deeds.specs.HistoryLaws.{ComputedIsHistory, HistoryIsComputed, NumberIsLeast, StartIsAHistory, RecordGoesOn, RecordsGoOn, FrontIsAHistory};
+ghost use Rattle.wf_deeds.specs.FirstFormat.{FirstFormatStays};
+ghost use Rattle.wf_deeds.specs.FormatRows.{WorkedFormats};
+ghost use Rattle.wf_deeds.specs.HistoryLaws.{ComputedIsHistory, HistoryIsComputed, NumberIsLeast, StartIsAHistory, RecordGoesOn, RecordsGoOn, FrontIsAHistory, HistoryOpens, HistoryPlays, PlayedIsHistory};
 ghost use Rattle.wf_deeds.specs.Moments.{TurnIsAdded, SessionBeforeStays, MomentBeforeStays, TurnIsOfItsSession, NextBehindTurn, HistoryStandsThere, NextBehindHistory, HistoryStandsBefore, NoTurnsBehind, NumberIsCount, SessionIsNumbered};
 
 use wf_model::{laws_of_runs, laws_of_turns};
 
 /// Carries laws: the history that is computed record by record is the one that is told by its facts, its number is the least, an accepted
-/// start is a history, records that go on make it longer, and its front is one.
+/// start is a history, records that go on make it longer, and its front is one. It opens, and it plays; what plays is one. Over
+/// records of the first format it is a start and turns, as before there was a second.
 pub fn laws_of_histories()
     ensures computed { ComputedIsHistory }
     ensures complete { HistoryIsComputed }
@@ -14,6 +17,10 @@ pub fn laws_of_histories()
     ensures record_goes_on { RecordGoesOn }
     ensures records_go_on { RecordsGoOn }
     ensures front { FrontIsAHistory }
+    ensures opens { HistoryOpens }
+    ensures plays { HistoryPlays }
+    ensures played { PlayedIsHistory }
+    ensures first_format { FirstFormatStays }
 {
     laws_of_runs();
 }
@@ -37,3 +44,8 @@ pub fn laws_of_moments()
     laws_of_turns();
     laws_of_histories();
 }
+
+/// Worked histories of both formats.
+pub fn worked_formats()
+    ensures { WorkedFormats }
+{}

@@ -1,7 +1,7 @@
 // Laws of the rules on deeds.
 ghost use Rattle.wf_deeds.specs.Clauses.{StandsIsKept};
 ghost use Rattle.wf_deeds.specs.Rules.{DeedKeepsRules, EndKeepsRules, HandedKeepsRules, TurnKeepsRules};
-ghost use Rattle.wf_deeds.specs.Steps.{DropGoesOn, EndIsKept, FreshStands, HandedStands, HearingGoesOn, PollIsKept, PrintGoesOn, ReplyGoesOn, StartGoesOn, TurnGoesOn, TurnIsChosen};
+ghost use Rattle.wf_deeds.specs.Steps.{DropGoesOn, EndIsKept, FreshStands, HandedStands, HearingGoesOn, HearingLeadsOn, PollIsKept, PrintGoesOn, ReplyGoesOn, StartGoesOn, TurnGoesOn, TurnIsChosen, TurnLeadsOn};
 ghost use Rattle.wf_deeds.specs.Laws.{OnlyReadings};
 
 use crate::{laws_of_histories, laws_of_moments};
@@ -34,6 +34,8 @@ pub fn laws_of_steps()
     ensures hearing { HearingGoesOn }
     ensures turn { TurnGoesOn }
     ensures chosen { TurnIsChosen }
+    ensures turn_leads { TurnLeadsOn }
+    ensures hearing_leads { HearingLeadsOn }
     ensures reply { ReplyGoesOn }
     ensures print { PrintGoesOn }
     ensures end { EndIsKept }

@@ -7,7 +7,7 @@ mod laws;
 mod outside_laws;
 mod waiting_laws;
 
-pub use history_laws::{laws_of_histories, laws_of_moments};
+pub use history_laws::{laws_of_histories, laws_of_moments, worked_formats};
 pub use laws::{laws_of_deeds, laws_of_rules, laws_of_steps};
 pub use outside_laws::{laws_of_visits, there_is_an_outside, worked_verdicts};
 pub use waiting_laws::laws_of_waiting;

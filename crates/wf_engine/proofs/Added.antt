@@ -6,9 +6,9 @@ use Rattle.std.proofs.lemmas.List.{append-nil}
 use Rattle.wf_ast.specs.Tree.{Program}
 use Rattle.wf_deeds.specs.Clauses.{IsOfSession, KeptAt, StandsIsKept, turn_records}
 use Rattle.wf_deeds.specs.Kept.{Command}
-use Rattle.wf_deeds.specs.Memory.{Memory, StandsFor}
+use Rattle.wf_deeds.specs.Memory.{LeadsTo, Memory, StandsFor}
 use Rattle.wf_deeds.specs.Outside.{Outside}
-use Rattle.wf_deeds.specs.Steps.{TurnGoesOn, TurnIsChosen, turn_of_memory, turned}
+use Rattle.wf_deeds.specs.Steps.{TurnGoesOn, TurnIsChosen, turn_of_memory, turned, TurnLeadsOn}
 use Rattle.wf_deeds.specs.Turns.{turn_of}
 use Rattle.wf_engine.specs.Fits.{longest_taken}
 use Rattle.wf_events.specs.Laws.{MeaningOfSpelling}
@@ -17,6 +17,7 @@ use Rattle.wf_events.specs.Spelling.{record_bytes, event, HasSpelling, IsOld}
 use Rattle.wf_host.specs.declared.data.Deed.{Deed}
 use Rattle.wf_deeds.specs.History.{history as history_of}
 use Rattle.wf_deeds.specs.Language.{Language}
+use Rattle.wf_history.specs.Kinds.{turn_in}
 use Rattle.wf_model.specs.Config.{Config, To}
 use Rattle.wf_model.specs.Run.{run_on}
 use Rattle.wf_record_parts.specs.Spelling.{eight, four}
@@ -44,6 +45,7 @@ pub record Laws : Type 0 where
   pub chosen : TurnIsChosen
   pub turn : TurnGoesOn
   pub moment : StandsIsKept
+  pub turn_leads : TurnLeadsOn
 
 -- the turn that a memory chooses leads there
 pub record Choice (m : Memory) (es : List Event) (c : Config) : Type 0 where
@@ -59,6 +61,9 @@ behind m p c taken = record m { program = p; config = c; taken = taken }
 pub as_turned : (L : Language) (O : Outside) (command : Command) (handed : Bool) (m : Memory) (p : Program) (c : Config) (taken : Option Event) (J : List (List ℕ)) (D : List Deed) → p ≡ m.program → taken ≡ None → StandsFor L O command handed (turned m c) J D → StandsFor L O command handed (behind m p c taken) J D
 as_turned L O command handed m p c taken J D same none s =
     subst (λ o. StandsFor L O command handed (behind m p c o) J D) (sym none) (subst (λ q. StandsFor L O command handed (behind m q c None) J D) (sym same) s)
+
+pub as_turned_leads : (L : Language) (m : Memory) (p : Program) (c : Config) (taken : Option Event) (J : List (List ℕ)) → p ≡ m.program → taken ≡ None → LeadsTo L J (turned m c) → LeadsTo L J (behind m p c taken)
+as_turned_leads L m p c taken J same none l = subst (λ o. LeadsTo L J (behind m p c o)) (sym none) (subst (λ q. LeadsTo L J (behind m q c None)) (sym same) l)
 
 -- a turn without an event has nothing that was taken
 pub none_taken : (p : Program) (c : Config) (r : ℕ) (o : Option Event) → turn_of p c r o ≡ [] → o ≡ None
@@ -91,7 +96,7 @@ module _ (moment : StandsIsKept) (L : Language) (O : Outside) (command : Command
 -- the record of a turn of the session
 pub turn_is_own : MeaningOfSpelling → (m : Memory) (es : List Event) → HasSpelling (Turned (turn_of_memory m es)) → IsOfSession m.session (payload_of m es)
 turn_is_own again m es spelled u means =
-    let two : Some (Turned (turn_of_memory m es)) ≡ Some (Turned u) = sym (again (Turned (turn_of_memory m es)) spelled tt) ∙ means in
+    let two : Some (turn_of_memory m es) ≡ Some u = ap turn_in (sym (again (Turned (turn_of_memory m es)) spelled tt)) ∙ means in
     let same : turn_of_memory m es ≡ u = cc two in
     ap (λ (t : Turn). t.session) (sym same)
 

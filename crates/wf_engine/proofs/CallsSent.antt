@@ -62,7 +62,7 @@ settled_on m n settled same owed = record {
 
 -- ## Parts
 goes_same : (L : Language) (O : Outside) (m : Memory) → Goes L O m m []
-goes_same L O m = λ command handed J D s. subst (λ E. StandsFor L O command handed m J E) (sym (append-nil D)) s
+goes_same L O m = record { stands = λ command handed J D s. subst (λ E. StandsFor L O command handed m J E) (sym (append-nil D)) s; leads = λ J l. l }
 
 -- nothing yet
 pub part_first : StandsIsKept → (w : World) (f : Faults) (e : Engine) → Told w (OnlyNow w) → is_closed e ≡ false → Told w (Holds e w) → Sent w w f f e e [] []

@@ -39,7 +39,7 @@ module _ (p : Program) (c : Config) (number reading : ℕ) (started dropped : �
   as_settled s = record { taken = s.taken; owed = s.owed; still = s.still }
 
   as_leading : (L : Language) (J : List (List ℕ)) → LeadsTo L J (fresh p c number reading) → LeadsTo L J (begun p c number reading started dropped told)
-  as_leading L J l = record { standing = l.standing; history = l.history; program = l.program; config = l.config; by_now = l.by_now; first = l.first; numbered = l.numbered }
+  as_leading L J l = record { standing = l.standing; history = l.history; program = l.program; config = l.config; by_now = l.by_now; first = l.first; numbered = l.numbered; format = l.format }
 
   pub stands_as_fresh : (L : Language) (O : Outside) (command : Command) (handed : Bool) (J : List (List ℕ)) (D : List Deed) → StandsFor L O command handed (fresh p c number reading) J D
       → StandsFor L O command handed (begun p c number reading started dropped told) J D
@@ -69,7 +69,8 @@ module _ (p : Program) (c : Config) (number reading : ℕ) (started dropped : �
   opened_as_fresh L O old new o = record {
     done = o.done;
     deeds = o.deeds;
-    stands = λ handed. stands_as_fresh L O Resume handed (records new.seen) o.done (o.stands handed);
+    leads = as_leading L (records new.seen) o.leads;
+    stands = λ is handed. stands_as_fresh L O Resume handed (records new.seen) o.done (o.stands is handed);
     clock = o.clock;
   }
 

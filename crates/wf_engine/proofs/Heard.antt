@@ -8,9 +8,9 @@ use Rattle.wf_connections.specs.declared.connections.Connections.{Connections}
 use Rattle.wf_deeds.specs.Clauses.{Takes}
 use Rattle.wf_deeds.specs.Deeds.{Told, IsAnswered, tells}
 use Rattle.wf_host.specs.World.{call_of, visit_of}
-use Rattle.wf_deeds.specs.Memory.{Memory, Owed, IsSettled, StandsFor, IsAnswerBy, Brings, arrival_by, decision_by, owes_by}
+use Rattle.wf_deeds.specs.Memory.{LeadsTo, Memory, Owed, IsSettled, StandsFor, IsAnswerBy, Brings, arrival_by, decision_by, owes_by}
 use Rattle.wf_deeds.specs.Outside.{Outside}
-use Rattle.wf_deeds.specs.Steps.{Hears, HearingGoesOn, VisitsAre, hearing}
+use Rattle.wf_deeds.specs.Steps.{Hears, HearingGoesOn, HearingLeadsOn, VisitsAre, hearing}
 use Rattle.wf_engine.specs.Hearing.{Finds, FindsAnswer, FindsBy}
 use Rattle.wf_engine.specs.Ready.{IsReady}
 use Rattle.wf_engine.specs.Taken.{AreTakable, taken_event}
@@ -91,12 +91,14 @@ module _ (O : Outside) (p : Program) (c : Config) (number reading waits : ℕ) (
       ∙ ap (λ n. plain_memory p c number r n s2 d2 t2 (taken_event r taken)) (sym once)
 
   -- what it stands for then
-  pub takes : HearingGoesOn → (L : Language) → ((k : ℕ) → d2 k ≡ d k) → (q r w : ℕ) → r ≡ max reading h.reading → w ≡ suc waits → IsSettled Before → c.outcome ≡ Active → visit_of h.what ≡ None → Finds (between q) h.what taken
+  pub takes : HearingGoesOn → HearingLeadsOn → (L : Language) → ((k : ℕ) → d2 k ≡ d k) → (q r w : ℕ) → r ≡ max reading h.reading → w ≡ suc waits → IsSettled Before → c.outcome ≡ Active → visit_of h.what ≡ None → Finds (between q) h.what taken
       → Takes L O Before (plain_memory p c number r w s2 d2 t2 (taken_event r taken)) h
-  takes law L dropped q r w now once settled active none finds = record {
+  takes law leads L dropped q r w now once settled active none finds = record {
     stands = λ command handed J D until stands may.
         subst (λ (n : Memory). StandsFor L O command handed n J (D ++ Poll until h ∷ [])) (heard_memory dropped r w now once)
         (law L O command handed Before J D until h t2 (λ n. None) 0 (taken_event (max reading h.reading) taken) None stands settled active may (hears q none finds));
+    leads = λ J l.
+        subst (λ (n : Memory). LeadsTo L J n) (heard_memory dropped r w now once) (leads L Before J h t2 (λ n. None) 0 (taken_event (max reading h.reading) taken) None l);
     waits = once;
   }
 

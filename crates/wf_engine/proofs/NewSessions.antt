@@ -9,7 +9,7 @@ use Rattle.wf_ast.specs.Tree.{Program}
 use Rattle.wf_deeds.specs.Deeds.{nows, polls, reading_by, starts_or_polls, IsSmall}
 use Rattle.wf_deeds.specs.Kept.{Run, Resume, Session, Place, own, last_of, ReadingsAreOfTheClock}
 use Rattle.wf_deeds.specs.Laws.{OnlyReadings}
-use Rattle.wf_deeds.specs.Memory.{StandsFor, session}
+use Rattle.wf_deeds.specs.Memory.{LeadsTo, StandsFor, session}
 use Rattle.wf_deeds.specs.Steps.{FreshStands, fresh}
 use Rattle.wf_engine.specs.Openings.{Clocked}
 use Rattle.wf_deeds.specs.Outside.{Outside}
@@ -90,13 +90,14 @@ module _ (L : Language) (O : Outside) (handed : Bool) (only : OnlyReadings) (sta
       (only L O x (all_small D one) none (λ no. cc no) (reads_well L O x none one (λ d resumes was ended. absurd (let no : Run ≡ Resume = resumes in cc no))))
       (all_small D one)
       (record {
-        standing = record { program = p; config = c; number = 1; session = 0; waits = 0 };
-        history = start L payload s p c means accepted begins_at;
+        standing = record { program = p; config = c; number = 1; session = 0; waits = 0; two = false; marks = false };
+        history = start L payload (Started s) s false p c means refl refl accepted begins_at;
         program = refl;
         config = refl;
         by_now = refl;
         first = omega arith;
         numbered = omega arith;
+        format = refl;
       })
       ((let own_is : r ≡ reading_by c.last D 0 = omega (arith, is, bound) in own_is) ∙ ap (λ o. reading_by (last_of o) D 0) (sym before)) (omega (arith, is)) (λ active. refl)
 
@@ -119,23 +120,30 @@ at_least last r D is = omega (arith, is)
 by_next : (n : ℕ) (s : Standing) → s.session < n → IsTrue (nat_lt s.session n || (nat_eq s.session n && nat_le s.waits 0))
 by_next n s less = or_left (nat_lt s.session n) (nat_eq s.session n && nat_le s.waits 0) (lt-ltb s.session n less)
 
+-- where the records lead
+pub leads_opened : (L : Language) → SessionIsNumbered → (J : List (List ℕ)) (s : Standing) (p : Program) (c : Config) (n r : ℕ) → history L J ≡ Ok s → s.program ≡ p → s.config ≡ c → s.two ≡ false → n ≡ suc s.session → LeadsTo L J (fresh p c n r)
+leads_opened L numbered J s p c n r is program config format next =
+    let behind : s.session < n = omega (arith, next) in
+    let number = numbered L J s is in
+    record {
+      standing = s;
+      history = is;
+      program = program;
+      config = config;
+      by_now = by_next n s behind;
+      first = omega (arith, next);
+      numbered = omega (arith, next, number);
+      format = format;
+    }
+
 module _ (L : Language) (O : Outside) (handed : Bool) (only : OnlyReadings) (stands : FreshStands) (stands_before : HistoryStandsBefore) (no_turns : NoTurnsBehind) (numbered : SessionIsNumbered) (J : List (List ℕ)) (s : Standing) where
-  pub stands_opened : (p : Program) (c : Config) (n r : ℕ) (D : List Deed) → history L J ≡ Ok s → s.program ≡ p → s.config ≡ c → n ≡ suc s.session → r ≡ reading_by c.last D 0 → Clocked c D → StandsFor L O Resume handed (fresh p c n r) J D
-  stands_opened p c n r D is program config next read clocked =
+  pub stands_opened : (p : Program) (c : Config) (n r : ℕ) (D : List Deed) → history L J ≡ Ok s → s.program ≡ p → s.config ≡ c → s.two ≡ false → n ≡ suc s.session → r ≡ reading_by c.last D 0 → Clocked c D → StandsFor L O Resume handed (fresh p c n r) J D
+  stands_opened p c n r D is program config format next read clocked =
       let behind : s.session < n = omega (arith, next) in
       let x : Session = session Resume handed (fresh p c n r) J D in
       let one = one_reading c D clocked in
       let none : own L O x ≡ [] = no_turns L J s n is behind in
       let before : config_before (journal L J) n ≡ Some c = stands_before L J s n is behind ∙ ap Some config in
-      let number = numbered L J s is in
       stands L O Resume handed p c n r J D (only L O x (all_small D one) none (λ no. cc no) (reads_well L O x none one (λ d resumes was ended. no_reading c d D clocked (sym before ∙ was) ended))) (all_small D one)
-      (record {
-        standing = s;
-        history = is;
-        program = program;
-        config = config;
-        by_now = by_next n s behind;
-        first = omega (arith, next);
-        numbered = omega (arith, next, number);
-      })
+      (leads_opened L numbered J s p c n r is program config format next)
       (read ∙ ap (λ o. reading_by (last_of o) D 0) (sym before)) (at_least c.last r D read) (read_once c D clocked)

@@ -9,9 +9,10 @@ use Rattle.wf_deeds.specs.Clauses.{IsOfSession, KeptAt, KeptWithin, Takes, Went}
 use Rattle.wf_deeds.specs.Deeds.{polls}
 use Rattle.wf_host.specs.Printing.{printed}
 use Rattle.wf_deeds.specs.Kept.{Command, Kept}
-use Rattle.wf_deeds.specs.Memory.{AllIsSent, IsSettled, Memory, StandsFor, session}
+use Rattle.wf_deeds.specs.Memory.{AllIsSent, IsSettled, LeadsTo, Memory, StandsFor, session}
 use Rattle.wf_deeds.specs.Outside.{Outside}
 use Rattle.wf_deeds.specs.Steps.{PollIsKept}
+use Rattle.wf_engine.proofs.Sent.{OnlyNow, silent_both}
 use Rattle.wf_history.specs.Stands as history
 use Rattle.wf_history.specs.declared.history.History.{History}
 use Rattle.wf_host.specs.Moments.{CountsNow, weaker}
@@ -26,28 +27,11 @@ use Rattle.wf_model.specs.Config.{Active}
 use Rattle.wf_model.specs.Ready.{least_due}
 
 -- ## Lists
-pub printed-append : (D E : List Deed) → printed (D ++ E) ≡ printed D ++ printed E
-printed-append [] E = refl
-printed-append (Print b ∷ ds) E = ap (λ l. b ++ l) (printed-append ds E) ∙ sym (append_assoc b (printed ds) (printed E))
-printed-append (Start k to b ∷ ds) E = printed-append ds E
-printed-append (Poll until h ∷ ds) E = printed-append ds E
-printed-append (Now t ∷ ds) E = printed-append ds E
-printed-append (Reply n b ∷ ds) E = printed-append ds E
-printed-append (Drop k ∷ ds) E = printed-append ds E
-
--- with nothing printed by either
-silent_both : (D E : List Deed) → printed D ≡ [] → printed E ≡ [] → printed (D ++ E) ≡ []
-silent_both D E one two = printed-append D E ∙ ap (λ l. l ++ printed E) one ∙ two
-
 -- turns of the session, and then more of them
 own_both : (n m : Memory) (added more : List (List ℕ)) → n.session ≡ m.session → AllByRecursion (IsOfSession m.session) added → AllByRecursion (IsOfSession n.session) more → AllByRecursion (IsOfSession m.session) (added ++ more)
 own_both n m added more number own next = all_both (IsOfSession m.session) added more own (subst (λ i. AllByRecursion (IsOfSession i) more) number next)
 
 -- ## So far
--- the host's law of the present moment
-abbrev pub OnlyNow : World → Type 0
-OnlyNow w = (c : List ℕ) (d : List Deed) → w.left_since w.moment c d → w.may_leave c × (d ≡ w.deeds)
-
 -- for one list for which the engine stood at first: turns of the session, and deeds that print nothing, at each moment with no more polls
 pub record SoFar (L : Language) (O : Outside) (command : Command) (handed : Bool) (most : ℕ) (m n : Memory) (first now : World) (D done : List Deed) : Type 0 where
   pub added : List (List ℕ)
@@ -151,6 +135,7 @@ module _ (L : Language) (O : Outside) (command : Command) (handed : Bool) (most 
 -- these deeds were done, and turn after turn was added, at each moment with no more polls
 pub record Far (L : Language) (O : Outside) (most : ℕ) (m n : Memory) (first now : World) (done : List Deed) : Type 0 where
   pub deeds : now.deeds ≡ first.deeds ++ done
+  pub leads : LeadsTo L (records first.seen) m → LeadsTo L (records now.seen) n
   pub each : (command : Command) (handed : Bool) (D : List Deed) → StandsFor L O command handed m (records first.seen) D → SoFar L O command handed most m n first now D done
 
 -- a poll may be made where nothing can move, all is sent, and it waits until the least due moment
@@ -175,6 +160,7 @@ module _ (L : Language) (O : Outside) (most : ℕ) where
   pub far_at_first : (h : History) (w : World) (m : Memory) → OnlyNow w → history.Stands h w → history.is_new h ≡ false → Far L O most m m w w []
   far_at_first h w m only stands old = record {
     deeds = sym (append-nil w.deeds);
+    leads = λ l. l;
     each = λ command handed D s. at_first L O h w command handed most m D only stands old s;
   }
 
@@ -190,13 +176,14 @@ module _ (L : Language) (O : Outside) (most : ℕ) where
       → history.Stands h new → history.is_new h ≡ false → Far L O most m o first new (done ++ e)
   far_on less m n o first mid new done e far number room more went h counts reads stands old = record {
     deeds = went.deeds ∙ ap (λ l. l ++ e) far.deeds ∙ append_assoc first.deeds done e;
+    leads = λ l. went.leads (far.leads l);
     each = λ command handed D s.
         let so = far.each command handed D s in
         goes_far L O command handed most less m n first mid D done so number room h o new e (more command handed (D ++ done) so.stands) counts reads (went.stands command handed (D ++ done) so.stands) went.deeds stands old;
   }
 
   pub far_went : (m n : Memory) (first now : World) (done : List Deed) → Far L O most m n first now done → Went L O m n first now done
-  far_went m n first now done far = record { deeds = far.deeds; stands = λ command handed D s. (far.each command handed D s).stands }
+  far_went m n first now done far = record { deeds = far.deeds; stands = λ command handed D s. (far.each command handed D s).stands; leads = far.leads }
 
   -- ## A poll
   pub poll_moments : PollIsKept → (m n : Memory) (first mid new : World) (done : List Deed) (until : ℕ) (h : Heard) → Far L O most m n first mid done → n.session ≡ m.session → polls done + 1 ≤ most → MayPollNow n until → Elapses Same (Poll until h ∷ []) mid new → KeptWithin L O most m first new
@@ -209,6 +196,7 @@ module _ (L : Language) (O : Outside) (most : ℕ) where
       → Takes L O n o h → (j : History) → history.Stands j new → history.is_new j ≡ false → Far L O most m o first new (done ++ Poll until h ∷ [])
   far_poll law m n o first mid new done until h far number room may time seen takes j stands old = record {
     deeds = time.deeds ∙ ap (λ l. l ++ Poll until h ∷ []) far.deeds ∙ append_assoc first.deeds done (Poll until h ∷ []);
+    leads = λ l. subst (λ i. LeadsTo L (records i) o) (sym seen) (takes.leads (records mid.seen) (far.leads l));
     each = λ command handed D s.
         let so = far.each command handed D s in
         deed_far L O command handed most 1 m n first mid D done so number room j o new (Poll until h) time

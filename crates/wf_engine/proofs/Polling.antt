@@ -5,7 +5,8 @@ use Rattle.wf_deeds.specs.Clauses.{IsSending, KeptWithin, Waits, Went, to_drop, 
 use Rattle.wf_deeds.specs.Memory.{Memory}
 use Rattle.wf_deeds.specs.Outside.{Outside}
 use Rattle.wf_engine.proofs.CallsSent.{holds_later}
-use Rattle.wf_engine.proofs.Parts.{Far, OnlyNow, far_at_first, far_on, far_went, polls_once}
+use Rattle.wf_engine.proofs.Parts.{Far, far_at_first, far_on, far_went, polls_once}
+use Rattle.wf_engine.proofs.Sent.{OnlyNow}
 use Rattle.wf_engine.proofs.SentLists.{sending_polls}
 use Rattle.wf_engine.specs.Engine.{Holds, held, is_closed, memory}
 use Rattle.wf_engine.specs.declared.engine.Engine.{Engine}

@@ -1,8 +1,8 @@
 -- A history that was read to its end, and the session that goes on from it.
-use Rattle.std.specs.Prelude.{◌≡◌, ◌≢◌, ◌⊎◌, ◌≤◌, ◌+◌, min, ℕ, zero, suc, if◌then◌else◌, List, [], ◌∷◌, ◌++◌, length, take, drop, Option, Some, None, Result, Ok, Err, IfErr, IsErr, IsErrAnd, unwrap_or}
+use Rattle.std.specs.Prelude.{◌≡◌, ◌≢◌, ◌⊎◌, ◌≤◌, ◌+◌, min, ℕ, zero, false, suc, if◌then◌else◌, List, [], ◌∷◌, ◌++◌, length, take, drop, Option, Some, None, Result, Ok, Err, IfErr, IsErr, IsErrAnd, unwrap_or}
 use Rattle.std.proofs.Common.{inl, inr, refl, sym, ◌∙◌, ap, arith, length-drop}
 use Rattle.wf_lemmas.proofs.Lists.{few_if}
-use Rattle.wf_engine.proofs.NewSessions.{stands_opened}
+use Rattle.wf_engine.proofs.NewSessions.{leads_opened, stands_opened}
 use Rattle.wf_deeds.specs.Clauses.{Opened}
 use Rattle.wf_deeds.specs.Laws.{OnlyReadings}
 use Rattle.wf_deeds.specs.Outside.{Outside}
@@ -30,6 +30,10 @@ use Rattle.wf_replay.specs.declared.engine_fault.EngineFault.{EngineFault}
 program_at : (n : ℕ) (l : Option (ℕ × ℕ)) (m : Machine) → (stands_at n l m).program ≡ (state_of m).program
 unfolding stands_at
 program_at n l m = refl
+
+format_at : (n : ℕ) (l : Option (ℕ × ℕ)) (m : Machine) → (stands_at n l m).two ≡ false
+unfolding stands_at
+format_at n l m = refl
 
 config_at : (n : ℕ) (l : Option (ℕ × ℕ)) (m : Machine) → (stands_at n l m).config ≡ (state_of m).config
 unfolding stands_at
@@ -79,8 +83,9 @@ module _ (L : Language) (O : Outside) (only : OnlyReadings) (stands : FreshStand
   opened old mid new h m n r is seen deeds next read = record {
     done = read.done;
     deeds = read.deeds ∙ ap (λ l. l ++ read.done) deeds;
-    stands = λ handed. stands_opened L O handed only stands stands_before no_turns numbered (records new.seen) (standing h m) (state_of m).program (state_of m).config n r read.done
-        (ap (λ l. history L (records l)) seen ∙ is) (program_at h.place (last h) m) (config_at h.place (last h) m) next read.greatest read.clock;
+    leads = leads_opened L numbered (records new.seen) (standing h m) (state_of m).program (state_of m).config n r (ap (λ l. history L (records l)) seen ∙ is) (program_at h.place (last h) m) (config_at h.place (last h) m) (format_at h.place (last h) m) next;
+    stands = λ found handed. stands_opened L O handed only stands stands_before no_turns numbered (records new.seen) (standing h m) (state_of m).program (state_of m).config n r read.done
+        (ap (λ l. history L (records l)) seen ∙ is) (program_at h.place (last h) m) (config_at h.place (last h) m) (format_at h.place (last h) m) next read.greatest read.clock;
     clock = read.clock;
   }
 

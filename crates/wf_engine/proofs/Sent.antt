@@ -9,7 +9,7 @@ use Rattle.wf_deeds.proofs.Lists.{polls-append}
 use Rattle.wf_deeds.specs.Deeds.{Told, nothing_told, polls}
 use Rattle.wf_host.specs.Printing.{printed}
 use Rattle.wf_deeds.specs.Kept.{Command, Kept, IsOpen}
-use Rattle.wf_deeds.specs.Memory.{IsSettled, Memory, StandsFor}
+use Rattle.wf_deeds.specs.Memory.{IsSettled, LeadsTo, Memory, StandsFor}
 use Rattle.wf_deeds.specs.Outside.{Outside}
 use Rattle.wf_deeds.specs.Steps.{DropGoesOn, StartGoesOn, with_calls}
 use Rattle.wf_events.specs.View.{address_view}
@@ -44,9 +44,14 @@ pub silent_both : (ds es : List Deed) → printed ds ≡ [] → printed es ≡ [
 silent_both ds es first more = printed-append ds es ∙ ap (λ l. l ++ printed es) first ∙ more
 
 -- ## Memories
--- what one stands for the other stands for with deeds more
-abbrev pub Goes : Language → Outside → Memory → Memory → List Deed → Type 0
-Goes L O m n E = (command : Command) (handed : Bool) (J : List (List ℕ)) (D : List Deed) → StandsFor L O command handed m J D → StandsFor L O command handed n J (D ++ E)
+-- what one stands for the other stands for with deeds more, and records that lead to one lead to the other
+pub record Goes (L : Language) (O : Outside) (m n : Memory) (E : List Deed) : Type 0 where
+  pub stands : (command : Command) (handed : Bool) (J : List (List ℕ)) (D : List Deed) → StandsFor L O command handed m J D → StandsFor L O command handed n J (D ++ E)
+  pub leads : (J : List (List ℕ)) → LeadsTo L J m → LeadsTo L J n
+
+-- records lead to a memory with other calls as they did
+pub calls_lead : (L : Language) (m : Memory) (started dropped : ℕ → Bool) (told : ℕ → Told) (J : List (List ℕ)) → LeadsTo L J m → LeadsTo L J (with_calls m started dropped told)
+calls_lead L m started dropped told J l = record { standing = l.standing; history = l.history; program = l.program; config = l.config; by_now = l.by_now; first = l.first; numbered = l.numbered; format = l.format }
 
 module _ (L : Language) (O : Outside) (m : Memory) (started dropped : ℕ → Bool) (told : ℕ → Told) where
   -- the calls may be known in another way
@@ -55,7 +60,7 @@ module _ (L : Language) (O : Outside) (m : Memory) (started dropped : ℕ → Bo
       → StandsFor L O command handed m J D → StandsFor L O command handed (with_calls m started dropped told) J D
   calls_go_on command handed J D starts drops tells s = record {
     kept = s.kept;
-    leads = record { standing = s.leads.standing; history = s.leads.history; program = s.leads.program; config = s.leads.config; by_now = s.leads.by_now; first = s.leads.first; numbered = s.leads.numbered };
+    leads = calls_lead L m started dropped told J s.leads;
     waits = s.waits;
     reading = s.reading;
     last = s.last;
@@ -77,24 +82,33 @@ module _ (L : Language) (O : Outside) (m : Memory) (started dropped : ℕ → Bo
 
   pub same_goes : ((k : ℕ) → started k ≡ m.started k) → ((k : ℕ) → dropped k ≡ m.dropped k) → ((k : ℕ) → IsOpen m.config k → m.started k ≡ true → told k ≡ m.told k)
       → Goes L O m (with_calls m started dropped told) []
-  same_goes starts drops tells = λ command handed J D s.
-      subst (λ E. StandsFor L O command handed (with_calls m started dropped told) J E) (sym (append-nil D)) (calls_go_on command handed J D starts drops tells s)
+  same_goes starts drops tells = record {
+    stands = λ command handed J D s.
+        subst (λ E. StandsFor L O command handed (with_calls m started dropped told) J E) (sym (append-nil D)) (calls_go_on command handed J D starts drops tells s);
+    leads = calls_lead L m started dropped told;
+  }
 
 -- ## Deeds
 module _ (L : Language) (O : Outside) (m : Memory) (started dropped : ℕ → Bool) (told : ℕ → Told) where
   -- a call is dropped
   pub drop_goes : DropGoesOn → (k : ℕ) → IsSettled m → call m.config k ≡ TimedOut → ((j : ℕ) → started j ≡ m.started j) → ((j : ℕ) → dropped j ≡ nat_eq k j || m.dropped j) → ((j : ℕ) → IsOpen m.config j → m.started j ≡ true → told j ≡ m.told j)
       → Goes L O m (with_calls m started dropped told) (Drop k ∷ [])
-  drop_goes law k settled timed starts drops tells = λ command handed J D s.
-      calls_go_on L O (with_calls m m.started dropped m.told) started dropped told command handed J (D ++ Drop k ∷ []) starts (λ j. refl) tells (law L O command handed m J D k dropped s settled timed drops)
+  drop_goes law k settled timed starts drops tells = record {
+    stands = λ command handed J D s.
+        calls_go_on L O (with_calls m m.started dropped m.told) started dropped told command handed J (D ++ Drop k ∷ []) starts (λ j. refl) tells (law L O command handed m J D k dropped s settled timed drops);
+    leads = calls_lead L m started dropped told;
+  }
 
   -- a call is started
   pub start_goes : StartGoesOn → (k : ℕ) (to : Address) (bytes : List ℕ) → IsSettled m → m.config.outcome ≡ Active → request_of m.config k ≡ Some (record { address = address_view to; bytes = bytes }) → m.started k ≡ false
       → ((j : ℕ) → started j ≡ nat_eq k j || m.started j) → ((j : ℕ) → dropped j ≡ m.dropped j) → told k ≡ nothing_told → ((j : ℕ) → m.started j ≡ true → told j ≡ m.told j)
       → Goes L O m (with_calls m started dropped told) (Start k to bytes ∷ [])
-  start_goes law k to bytes settled active asks new starts drops first others = λ command handed J D s.
-      calls_go_on L O (with_calls m started m.dropped told) started dropped told command handed J (D ++ Start k to bytes ∷ []) (λ j. refl) drops (λ j still was. refl)
-      (law L O command handed m J D k to bytes started told s settled active asks new (record { is = starts; first = first; others = others }))
+  start_goes law k to bytes settled active asks new starts drops first others = record {
+    stands = λ command handed J D s.
+        calls_go_on L O (with_calls m started m.dropped told) started dropped told command handed J (D ++ Start k to bytes ∷ []) (λ j. refl) drops (λ j still was. refl)
+        (law L O command handed m J D k to bytes started told s settled active asks new (record { is = starts; first = first; others = others }));
+    leads = calls_lead L m started dropped told;
+  }
 
 -- the call as it is known at once
 module _ (m : Memory) (k : ℕ) where
@@ -156,14 +170,15 @@ module _ (moment : StandsIsKept) (L : Language) (O : Outside) (m : Memory) where
     kept_with new n e time goes same still = λ command handed D s.
         deed_goes_on w w new (KeptAt L O command handed m 0 (records w.seen) D) [] e (begun_now command handed D s) time
         (kept_at m command handed (records w.seen) D [] (subst (λ E. StandsFor L O command handed m (records w.seen) E) (sym (append-nil D)) s) refl refl refl)
-        (kept_at n command handed (records w.seen) D (e ∷ []) (goes command handed (records w.seen) D s) same (ap (λ (both : List ℕ × ℕ). both.0) still) (ap (λ (both : List ℕ × ℕ). both.1) still))
+        (kept_at n command handed (records w.seen) D (e ∷ []) (goes.stands command handed (records w.seen) D s) same (ap (λ (both : List ℕ × ℕ). both.0) still) (ap (λ (both : List ℕ × ℕ). both.1) still))
 
 -- ## Behind a call
 module _ (L : Language) (O : Outside) (m n : Memory) (w new : World) where
   pub went_by : (done : List Deed) → Goes L O m n done → new.deeds ≡ w.deeds ++ done → new.seen ≡ w.seen → Went L O m n w new done
   went_by done goes deeds seen = record {
     deeds = deeds;
-    stands = λ command handed D s. subst (λ i. StandsFor L O command handed n (records i) (D ++ done)) (sym seen) (goes command handed (records w.seen) D s);
+    stands = λ command handed D s. subst (λ i. StandsFor L O command handed n (records i) (D ++ done)) (sym seen) (goes.stands command handed (records w.seen) D s);
+    leads = λ l. subst (λ i. LeadsTo L (records i) n) (sym seen) (goes.leads (records w.seen) l);
   }
 
 -- ## One after the other
@@ -173,6 +188,7 @@ module _ (L : Language) (O : Outside) (m n : Memory) (w mid : World) (done : Lis
     deeds = next.deeds ∙ ap (λ l. l ++ more) went.deeds ∙ append_assoc w.deeds done more;
     stands = λ command handed D s.
         subst (λ E. StandsFor L O command handed o (records new.seen) E) (append_assoc D done more) (next.stands command handed (D ++ done) (went.stands command handed D s));
+    leads = λ l. next.leads (went.leads l);
   }
 
   module _ (seen : mid.seen ≡ w.seen) (number : n.session ≡ m.session) (silent : printed done ≡ []) (still : polls done ≡ 0) where

@@ -6,10 +6,10 @@ use Rattle.std.proofs.lemmas.List.{append-nil}
 use Rattle.wf_ast.specs.Tree.{Program}
 use Rattle.wf_connections.specs.declared.connections.Connections.{Connections}
 use Rattle.wf_deeds.specs.Clauses.{AddsTurn, replies_of, turn_records}
-use Rattle.wf_deeds.specs.Memory.{IsSettled, Memory, StandsFor}
+use Rattle.wf_deeds.specs.Memory.{IsSettled, LeadsTo, Memory, StandsFor}
 use Rattle.wf_deeds.specs.Outside.{Outside}
-use Rattle.wf_deeds.specs.Steps.{turn_of_memory}
-use Rattle.wf_engine.proofs.Added.{Choice, Laws, as_turned, behind, none_more, one_turn_more, payload_of, records_of}
+use Rattle.wf_deeds.specs.Steps.{turn_of_memory, turned}
+use Rattle.wf_engine.proofs.Added.{Choice, Laws, as_turned, as_turned_leads, behind, none_more, one_turn_more, payload_of, records_of}
 use Rattle.wf_engine.specs.Engine.{spent}
 use Rattle.wf_engine.specs.Ready.{AreOf}
 use Rattle.wf_engine.specs.Turn.{Rests, brought}
@@ -34,6 +34,10 @@ module _ (L : Language) (O : Outside) (m : Memory) (p : Program) (c : Config) (t
       stands = λ command handed D s.
           subst (λ E. StandsFor L O command handed (behind m p c taken) (records w.seen) E) (sym (append-nil D) ∙ ap (λ o. D ++ replies_of o) (sym owed))
           (as_turned L O command handed m p c taken (records w.seen) D same empty (none_more L O command handed m (records w.seen) D es c s is none));
+      leads = λ l.
+          let stays : m.config ≡ c = cc (ap (λ l. run_on m.program (To m.config) l) (sym none) ∙ is.leads) in
+          as_turned_leads L m p c taken (records w.seen) same empty
+          (record { standing = l.standing; history = l.history; program = l.program; config = l.config ∙ stays; by_now = l.by_now; first = l.first; numbered = l.numbered; format = l.format });
     };
     turn = sym (append-nil (records w.seen)) ∙ ap (λ l. records w.seen ++ turn_records m.session m.waits l) (sym none ∙ is.turn);
     taken = empty;
@@ -49,6 +53,9 @@ module _ (L : Language) (O : Outside) (m : Memory) (p : Program) (c : Config) (t
           subst (λ E. StandsFor L O command handed (behind m p c taken) (records new.seen) E) (sym (append-nil D) ∙ ap (λ o. D ++ replies_of o) (sym owed))
           (as_turned L O command handed m p c taken (records new.seen) D same empty
           (subst (λ J. StandsFor L O command handed (behind m m.program c None) J D) (sym more) (one_turn_more L O command handed m (records w.seen) D laws es c s is some spelled)));
+      leads = λ l.
+          as_turned_leads L m p c taken (records new.seen) same empty
+          (subst (λ J. LeadsTo L J (turned m c)) (sym more) (laws.turn_leads L m (records w.seen) (payload_of m es) es c l (laws.again (Turned (turn_of_memory m es)) spelled tt) is.leads));
     };
     turn = more ∙ ap (λ l. records w.seen ++ l) (sym (records_of m es some)) ∙ ap (λ l. records w.seen ++ turn_records m.session m.waits l) is.turn;
     taken = empty;

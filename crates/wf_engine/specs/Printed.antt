@@ -1,7 +1,8 @@
 -- The statuses that print a text, each with its cause.
 --     Scene     what a command meets
+--     found_by  where the records lead that a command finds
 --     MayPrint  a status whose cause holds, with its text, for the image and the deeds of a moment
-use Rattle.std.specs.Prelude.{◌≡◌, ◌≢◌, ◌≤◌, ℕ, suc, Bool, true, false, List, [], ◌++◌, length, take, Option, Some, None, Ok, Err, codes, decimal}
+use Rattle.std.specs.Prelude.{◌≡◌, ◌≢◌, ◌≤◌, ℕ, Bool, true, false, List, [], ◌++◌, length, take, Option, Some, None, Result, Ok, Err, codes, decimal}
 use Rattle.wf_ast.specs.Tree.{Program}
 use Rattle.wf_deeds.specs.Deeds.{polls}
 use Rattle.wf_host.specs.Source.{Rest, IsFirst}
@@ -13,7 +14,7 @@ use Rattle.wf_args.specs.declared.command.Command.TheVariants.{Check, Format, Ru
 use Rattle.wf_args.specs.declared.option.OptionName.TheVariants.{Grep}
 use Rattle.wf_model.specs.Config.{Config, Outcome, Active, Returned, Raised, Cancelled}
 use Rattle.wf_engine.specs.Starts.{HasArgument}
-use Rattle.wf_deeds.specs.History.{Standing, history}
+use Rattle.wf_deeds.specs.History.{Standing, front_of, opens, plays}
 use Rattle.wf_deeds.specs.Language.{Language}
 use Rattle.wf_source.specs.Programs.{IsRefusalOf, IsSourceOf}
 use Rattle.wf_source.specs.Sources.{read_tree}
@@ -146,20 +147,25 @@ pub data Reported (R : Reports) (s : Scene) : List ℕ → Type 0 where
 abbrev pub HasPolled : Scene → List Deed → Type 0
 HasPolled s D = (l : PlainLine) × IsLine s l × (polls D ≡ waits_of l)
 
+-- where the records lead that a command finds, or the number that it tells: `at` plays them from their start, each other command opens them
+abbrev pub found_by : Language → Command → List (List ℕ) → Result Standing ℕ
+found_by L At J = plays L J
+found_by L c J = opens L J
+
 -- ## In a language
 module _ (L : Language) (R : Reports) (s : Scene) where
   abbrev pub IsNoHistory : ℕ → Type 0
-  IsNoHistory n = IsLineOf s (λ c. needs_history c ≡ true) × (history L (records s.found) ≡ Err n)
+  IsNoHistory n = IsLineOf s (λ c. (needs_history c ≡ true) × (found_by L c (records s.found) ≡ Err n))
 
   -- what is told of the history that was found: where it leads, where a front of it leads, or what it has logged
   pub data TellsHistory : List ℕ → Type 0 where
-    shown : (t : Standing) → IsLineOf s (λ c. c ≡ Show) → history L (records s.found) ≡ Ok t → TellsHistory (R.shown t.config)
-    stood : (l : PlainLine) (whole t : Standing) → IsLine s l → l.command ≡ At → history L (records s.found) ≡ Ok whole → history L (take (suc (turn_of l)) (records s.found)) ≡ Ok t → TellsHistory (R.shown t.config)
-    logged : (l : PlainLine) (t : Standing) → IsLine s l → l.command ≡ Log → history L (records s.found) ≡ Ok t → TellsHistory (R.logged (word_of Grep l) t.config)
+    shown : (t : Standing) → IsLineOf s (λ c. c ≡ Show) → found_by L Show (records s.found) ≡ Ok t → TellsHistory (R.shown t.config)
+    stood : (l : PlainLine) (whole t : Standing) → IsLine s l → l.command ≡ At → found_by L At (records s.found) ≡ Ok whole → found_by L At (front_of (turn_of l) (records s.found)) ≡ Ok t → TellsHistory (R.shown t.config)
+    logged : (l : PlainLine) (t : Standing) → IsLine s l → l.command ≡ Log → found_by L Log (records s.found) ≡ Ok t → TellsHistory (R.logged (word_of Grep l) t.config)
 
   -- the records of an image give this outcome
   abbrev pub HasOutcome : List ℕ → Outcome → Type 0
-  HasOutcome image o = IsLineOf s (λ c. executes c ≡ true) × ((c : Standing) × (history L (records image) ≡ Ok c) × (c.config.outcome ≡ o))
+  HasOutcome image o = IsLineOf s (λ c. executes c ≡ true) × ((c : Standing) × (opens L (records image) ≡ Ok c) × (c.config.outcome ≡ o))
 
   -- they give none, and the command waits no more for what may come: it polled as often as its line says
   abbrev pub IsSuspended : List ℕ → List Deed → Type 0

@@ -1,9 +1,9 @@
 -- What the calls of an engine promise: each fact by its name. An engine stands before and behind a call, and its host is old and new; `world`
 -- and `faults` are what a host stands for and its counts of faults.
 use Rattle.std.specs.Prelude.{◌≡◌, ◌≢◌, ◌⊎◌, ◌↔◌, ◌≤◌, ◌<◌, ◌+◌, ◌++◌, ℕ, Bool, true, false, [], ◌∷◌, length, take, max, Result, Ok, Err, IfOk, IfErr, OnOk, OnErr, IsErrOf}
-use Rattle.wf_deeds.specs.At.{applied_by, journal, next_session}
+use Rattle.wf_deeds.specs.At.{journal, next_session, to_apply}
 use Rattle.wf_deeds.specs.Clauses.{AddsTurn, KeptThroughout, KeptWithin, Opened, SendsOpen, Sessions, Takes}
-use Rattle.wf_deeds.specs.History.{Standing, history}
+use Rattle.wf_deeds.specs.History.{Standing, opens}
 use Rattle.wf_deeds.specs.Kept.{Run}
 use Rattle.wf_deeds.specs.Memory.{AllIsSent, IsSettled, StandsFor}
 use Rattle.wf_deeds.specs.Turns.{turn_of}
@@ -12,8 +12,8 @@ use Rattle.wf_engine.specs.Hearing.{SameBut}
 use Rattle.wf_engine.specs.Sending.{SameButSent}
 use Rattle.wf_engine.specs.TheOutside.{InTheOutside}
 use Rattle.wf_engine.specs.declared.engine.Engine.{Engine}
-use Rattle.wf_events.specs.Records.{Started}
 use Rattle.wf_events.specs.Spelling.{record_bytes}
+use Rattle.wf_history.specs.Kinds.{first_record}
 use Rattle.wf_history.specs.Stands.{HasNoneOrThis}
 use Rattle.wf_host.specs.Calls.{AtAnyMoment, DiskFailed, DoesNoDeed, NoCountFalls, OnlyErrors, OnlyErrorsOr, ReadsAsBefore, TellsAsBefore}
 use Rattle.wf_host.specs.World.{World, Faults, Told, LeavesOnly, Only, Rose}
@@ -43,9 +43,9 @@ pub record BeginsAnExecution {H : Type 0} (world : H → World) (faults : H → 
   -- which hasn't polled
   pub waits : IfOk r (λ e. (memory e).waits ≡ 0)
   -- the start alone stands in the file
-  pub started : Told (world old) (OnOk r (records (world new).seen ≡ record_bytes (Started start) ∷ []))
+  pub started : Told (world old) (OnOk r (records (world new).seen ≡ record_bytes (first_record start) ∷ []))
   -- a crash leaves what one at entry may have left; or no record, or the start alone, where there was no record
-  pub any_moment : AtAnyMoment world old new (λ c d. ((world old).may_leave c × (d ≡ (world old).deeds)) ⊎ ((records (world old).seen ≡ []) × HasNoneOrThis (world old) (record_bytes (Started start)) c d))
+  pub any_moment : AtAnyMoment world old new (λ c d. ((world old).may_leave c × (d ≡ (world old).deeds)) ⊎ ((records (world old).seen ≡ []) × HasNoneOrThis (world old) (record_bytes (first_record start)) c d))
   -- of a file with another magic or a record a crash leaves what one at entry may have left
   pub refused_stays : Told (world old) (((5 ≤ length (world old).seen) × (take 4 (world old).seen ≢ magic)) ⊎ (records (world old).seen ≢ []) → LeavesOnly (world old) (world new) (λ c d. (world old).may_leave c × (d ≡ (world old).deeds)))
   -- and it reads as before
@@ -78,7 +78,7 @@ pub record OpensAnExecution {H : Type 0} (world : H → World) (faults : H → F
   -- it stands for the records found; with an outcome it has done nothing, and else it has read the clock once
   pub opened : InTheOutside (λ O. Told (world old) (IfOk r (λ e. Opened the_language O (memory e) (world old) (world new))))
   -- each event of these records is one step
-  pub steps : Told (world old) (OnOk r (behind ≡ before + applied_by (records (world old).seen)))
+  pub steps : Told (world old) (OnOk r (behind ≡ before + to_apply (records (world old).seen)))
   -- it can go on
   pub «open» : IfOk r (λ e. is_closed e ≡ false)
   -- its session is the next one
@@ -99,14 +99,14 @@ pub record OpensAnExecution {H : Type 0} (world : H → World) (faults : H → F
   pub not_started : Told (world old) (IsErrOf r fault.NotStarted → (records (world old).seen ≡ []) × IsJournal (world old).seen)
   -- which was read behind the opening's sync: a crash leaves just this
   pub settled : Told (world old) (IsErrOf r fault.NotStarted → Only (world new).seen (world new).may_leave)
-  -- NotAHistory comes only where its records are no history, with that number
-  pub not_a_history : Told (world old) (IfErr r (λ e. (n : ℕ) → e ≡ fault.NotAHistory n → (history the_language (records (world old).seen) ≡ Err n) × (records (world old).seen ≢ []) × (take 4 (world old).seen ≡ magic)))
+  -- NotAHistory comes only where its records don't open, with that number
+  pub not_a_history : Told (world old) (IfErr r (λ e. (n : ℕ) → e ≡ fault.NotAHistory n → (opens the_language (records (world old).seen) ≡ Err n) × (records (world old).seen ≢ []) × (take 4 (world old).seen ≡ magic)))
   -- no other fault comes
   pub only : OnlyErrorsOr fault.NotAHistory r (fault.DiskFault ∷ fault.NotAJournal ∷ fault.NotStarted ∷ fault.OutOfMemory ∷ [])
   -- the clock is read at most once, and nothing else is done
   pub deeds : Told (world old) (((world new).deeds ≡ (world old).deeds) ⊎ ((t : ℕ) × ((world new).deeds ≡ (world old).deeds ++ Now t ∷ [])))
   -- with an outcome nothing is done
-  pub finished : Told (world old) ((s : Standing) → history the_language (records (world old).seen) ≡ Ok s → s.config.outcome ≢ Active → (world new).deeds ≡ (world old).deeds)
+  pub finished : Told (world old) ((s : Standing) → opens the_language (records (world old).seen) ≡ Ok s → s.config.outcome ≢ Active → (world new).deeds ≡ (world old).deeds)
   -- whether the host tells stays
   pub tells : TellsAsBefore world old new
   -- no count of faults falls

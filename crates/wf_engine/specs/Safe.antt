@@ -4,7 +4,7 @@
 --     LateAt    behind the opening's sync
 use Rattle.std.specs.Prelude.{◌≡◌, ◌⊎◌, ◌≤◌, ℕ, List, [], ◌∷◌, ◌++◌, length, take, Contains, Option, option_map, Result, Ok, Err, false}
 use Rattle.std.specs.List.{AllByRecursion}
-use Rattle.wf_deeds.specs.Clauses.{IsOfSession}
+use Rattle.wf_deeds.specs.Clauses.{AreAdded}
 use Rattle.wf_deeds.specs.Deeds.{nows, IsSmall}
 use Rattle.wf_host.specs.Printing.{printed}
 use Rattle.wf_deeds.specs.Kept as kept
@@ -12,8 +12,8 @@ use Rattle.wf_deeds.specs.Kept.{Session, Kept}
 use Rattle.wf_deeds.specs.Outside.{Outside}
 use Rattle.wf_engine.specs.Printed.{Scene, Reports, Reads, MayPrint}
 use Rattle.wf_engine.specs.Starts.{start_of}
-use Rattle.wf_events.specs.Records.{Started}
 use Rattle.wf_events.specs.Spelling.{record_bytes}
+use Rattle.wf_history.specs.Kinds.{first_record}
 use Rattle.wf_host.specs.Source.{Rest}
 use Rattle.wf_host.specs.World.{World}
 use Rattle.wf_host.specs.declared.data.Deed.{Deed}
@@ -60,15 +60,15 @@ module _ (L : Language) (O : Outside) (R : Reports) (s : Scene) (end : Option St
   abbrev pub ImageKeepsRecords : List ℕ → Type 0
   ImageKeepsRecords image = (added : List (List ℕ)) × (records image ≡ records s.found ++ added)
 
-  -- each turn behind them is of this command's session
+  -- what stands behind them was added by this command's session
   abbrev pub AddedTurnsAreOwn : List ℕ → Type 0
   AddedTurnsAreOwn image = (added : List (List ℕ)) → records image ≡ records s.found ++ added
-      → AllByRecursion (IsOfSession (next_session (journal L (records s.found)))) added
+      → AreAdded L (records s.found) (next_session (journal L (records s.found))) added
 
   -- a first record that this command added is the start of its line, of the source and of the clock
   abbrev pub StartIsOfTheLine : List ℕ → List Deed → Type 0
   StartIsOfTheLine image D = (first : List ℕ) (rest : List (List ℕ)) → records s.found ≡ [] → records image ≡ first ∷ rest
-      → (l : PlainLine) × (bytes : List ℕ) × Reads s l bytes × ((t : ℕ) × Contains (nows D) t × (first ≡ record_bytes (Started (start_of l bytes t))))
+      → (l : PlainLine) × (bytes : List ℕ) × Reads s l bytes × ((t : ℕ) × Contains (nows D) t × (first ≡ record_bytes (first_record (start_of l bytes t))))
 
   -- what was printed is the front of a text that the command has cause to print
   abbrev pub PrintedIsOutcome : List ℕ → List Deed → Type 0

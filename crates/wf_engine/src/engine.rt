@@ -61,9 +61,9 @@ impl Engine {
     ghost use Rattle.wf_deeds.specs.Memory.{IsSettled};
     ghost use Rattle.wf_engine.specs.Engine.{memory, is_closed, Holds};
     ghost use Rattle.wf_engine.specs.Promises.{BeginsAnExecution, OpensAnExecution, TakesATurn};
-    ghost use Rattle.wf_events.specs.Records.{Started};
     ghost use Rattle.wf_events.specs.Spelling.{record_bytes, HasSpelling};
     ghost use Rattle.wf_events.specs.View.{start_view};
+    ghost use Rattle.wf_history.specs.Kinds.{first_record};
     ghost use Rattle.wf_host.specs.World.{Told};
     ghost use Rattle.wf_machine.specs.Seen.{state_of};
     ghost use Rattle.wf_source.specs.Programs.{IsSourceOf};
@@ -81,8 +81,8 @@ impl Engine {
         program: Checked,
     ) -> Result<Engine, EngineFault>
         requires accepted { IsSourceOf (start_view start.now).source (program_of program) }
-        requires spelled { HasSpelling (Started (start_view start.now)) }
-        requires short { length (record_bytes (Started (start_view start.now))) ≤ 16777215 }
+        requires spelled { HasSpelling (first_record (start_view start.now)) }
+        requires short { length (record_bytes (first_record (start_view start.now))) ≤ 16777215 }
         ensures { BeginsAnExecution H.world H.faults (start_view start.now) host.old host.new
             result }
     {

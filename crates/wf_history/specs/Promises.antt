@@ -1,12 +1,12 @@
 -- What the calls on a history promise: each fact by its name. `before` and `after` are the history, `entry` and `exit` the host.
 use Rattle.std.specs.Prelude.{◌≡◌, ◌≢◌, ◌↔◌, ◌⊎◌, ◌<◌, ◌≤◌, ◌++◌, [], ◌∷◌, ℕ, suc, true, false, List, length, take, Option, Some, None, IfOk, IfErr, OnOk, OnErr, IfNone, IfSome, IsErrOf, MatchOption, Result}
 use Rattle.wf_events.specs.Reading.{meaning}
-use Rattle.wf_events.specs.Records.{Started, Turned}
 use Rattle.wf_events.specs.Spelling.{record_bytes}
 use Rattle.wf_events.specs.View.{record_view, start_view, turn_view}
 use Rattle.wf_events.specs.declared.data.Record.{Record}
 use Rattle.wf_events.specs.declared.data.Start.{Start}
 use Rattle.wf_events.specs.declared.data.Turn.{Turn}
+use Rattle.wf_history.specs.Kinds.{added_record, first_record}
 use Rattle.wf_history.specs.Stands as history
 use Rattle.wf_history.specs.Stands.{is_new, at_end, is_closed, ahead, unread, Stands, last_after, HasNoneOrThis, IsBadAt}
 use Rattle.wf_history.specs.declared.fault.HistoryFault.{HistoryFault}
@@ -118,9 +118,9 @@ pub record Begins {H : Type 0} (world : H → World) (faults : H → Faults) (be
   pub closes : (is_closed after ≡ true) ↔ ((is_closed before ≡ true) ⊎ IsErrOf result fault.DiskFault)
   -- ## The file
   -- an Ok leaves the start alone
-  pub added : Told (world entry) (OnOk result (records (world exit).seen ≡ record_bytes (Started (start_view start)) ∷ []))
+  pub added : Told (world entry) (OnOk result (records (world exit).seen ≡ record_bytes (first_record (start_view start)) ∷ []))
   -- a crash leaves no record, or the start alone; and no deed
-  pub any_moment : is_closed before ≡ false → AtAnyMoment world entry exit (HasNoneOrThis (world entry) (record_bytes (Started (start_view start))))
+  pub any_moment : is_closed before ≡ false → AtAnyMoment world entry exit (HasNoneOrThis (world entry) (record_bytes (first_record (start_view start))))
   -- ## The errors
   -- only where a disk call failed
   pub disk_fault : IsErrOf result fault.DiskFault → DiskFailed faults entry exit
@@ -158,9 +158,9 @@ pub record Adds {H : Type 0} (world : H → World) (faults : H → Faults) (befo
   pub closes : (is_closed after ≡ true) ↔ ((is_closed before ≡ true) ⊎ IsErrOf result fault.DiskFault)
   -- ## The file
   -- an Ok adds the turn
-  pub added : Told (world entry) (OnOk result (records (world exit).seen ≡ records (world entry).seen ++ record_bytes (Turned (turn_view turn)) ∷ []))
+  pub added : Told (world entry) (OnOk result (records (world exit).seen ≡ records (world entry).seen ++ record_bytes (added_record (turn_view turn)) ∷ []))
   -- a crash leaves the records before, or these and the turn; and no deed
-  pub any_moment : is_closed before ≡ false → AtAnyMoment world entry exit (IsBeforeOrAfter (world entry) (record_bytes (Turned (turn_view turn))))
+  pub any_moment : is_closed before ≡ false → AtAnyMoment world entry exit (IsBeforeOrAfter (world entry) (record_bytes (added_record (turn_view turn))))
   -- ## The errors
   -- only where a disk call failed
   pub disk_fault : IsErrOf result fault.DiskFault → DiskFailed faults entry exit

@@ -1,7 +1,7 @@
 -- What a history knows of its file.
 use Rattle.std.specs.Prelude.{◌≡◌, ◌⊎◌, ℕ, Bool, List, [], ◌∷◌, ◌++◌, length, Option, Some, None}
 use Rattle.wf_events.specs.Reading.{meaning}
-use Rattle.wf_events.specs.Records.{Record, Turned}
+use Rattle.wf_events.specs.Records.{Record, Turned, Packed}
 use Rattle.wf_history.specs.Faults.{told}
 use Rattle.wf_history.specs.declared.history.History.{History}
 use Rattle.wf_host.specs.World.{World}
@@ -48,6 +48,7 @@ pub record Stands (h : History) (w : World) : Type 0 where
 -- a turn is the last one from then on
 abbrev pub last_after : Option (ℕ × ℕ) → Record → Option (ℕ × ℕ)
 last_after before (Turned t) = Some (t.session, t.waits)
+last_after before (Packed t) = Some (t.session, t.waits)
 last_after before r = before
 
 -- no record, or this one alone, and no deed

@@ -17,10 +17,10 @@ pub struct History {
 
 impl History {
     ghost use Rattle.std.specs.Prelude.{◌≡◌, ◌≢◌, [], true, false, length};
-    ghost use Rattle.wf_events.specs.Records.{Started, Turned};
     ghost use Rattle.wf_events.specs.Spelling.{record_bytes, HasSpelling};
     ghost use Rattle.wf_events.specs.View.{start_view, turn_view};
     ghost use Rattle.wf_history.specs.Faults.{IsFaultAt};
+    ghost use Rattle.wf_history.specs.Kinds.{added_record, first_record};
     ghost use Rattle.wf_history.specs.Promises.{Opens, ReadsNext, Begins, Adds};
     ghost use Rattle.wf_history.specs.Stands.{is_new, at_end, is_closed, place, last, Stands};
     ghost use Rattle.wf_host.specs.World.{Told};
@@ -124,8 +124,8 @@ impl History {
     ) -> Result<(), HistoryFault>
         requires ended { at_end self.old ≡ true }
         requires none { Told (H.world host.old) (records (H.world host.old).seen ≡ []) }
-        requires spelled { HasSpelling (Started (start_view start.now)) }
-        requires short { length (record_bytes (Started (start_view start.now))) ≤ 16777215 }
+        requires spelled { HasSpelling (first_record (start_view start.now)) }
+        requires short { length (record_bytes (first_record (start_view start.now))) ≤ 16777215 }
         requires kept { is_closed self.old ≡ false
             → Told (H.world host.old) (Stands self.old (H.world host.old)) }
         ensures { Begins H.world H.faults self.old self.new host.old host.new start.now result }
@@ -155,8 +155,8 @@ impl History {
         requires ended { at_end self.old ≡ true }
         requires begun { is_new self.old ≡ false }
         requires started { Told (H.world host.old) (records (H.world host.old).seen ≢ []) }
-        requires spelled { HasSpelling (Turned (turn_view turn.now)) }
-        requires short { length (record_bytes (Turned (turn_view turn.now))) ≤ 16777215 }
+        requires spelled { HasSpelling (added_record (turn_view turn.now)) }
+        requires short { length (record_bytes (added_record (turn_view turn.now))) ≤ 16777215 }
         requires kept { is_closed self.old ≡ false
             → Told (H.world host.old) (Stands self.old (H.world host.old)) }
         ensures { Adds H.world H.faults self.old self.new host.old host.new turn.now result }

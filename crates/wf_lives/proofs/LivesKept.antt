@@ -2,7 +2,8 @@
 use Rattle.std.specs.Prelude.{◌≡◌, ◌⊎◌, ◌<◌, ◌≤◌, ℕ, zero, suc, List, [], ◌∷◌, ◌++◌, length, get_or, Contains, Some, None, Ok}
 use Rattle.std.specs.List.{AllByRecursion}
 use Rattle.std.proofs.Common.{inl, inr, ⊎_elim, sym, ◌∙◌, ap, ap₂, subst, arith, append_assoc, append-nil, drop_of_length-le}
-use Rattle.wf_lives.proofs.LivesRuns.{WasOpen, facts, longer, open_before, same_end, same_request, still_was_open, was_open, with_more}
+use Rattle.wf_deeds.proofs.HistoryMoments.{with_more}
+use Rattle.wf_lives.proofs.LivesRuns.{WasOpen, facts, longer, open_before, same_end, same_request, still_was_open, was_open}
 use Rattle.wf_deeds.specs.Deeds.{polls, IsSmall}
 use Rattle.wf_lives.specs.Lives.{ClosedIsNotStarted, FilesStayFit, Stay, IsStay, IsLifeFrom, IsOutcomeText, OneLine, OneRequest, RecordsStay}
 use Rattle.wf_deeds.specs.Outside.{Outside}

@@ -3,16 +3,15 @@ use Rattle.std.specs.Prelude.{◌≡◌, ◌≢◌, ◌⊎◌, ◌<◌, ◌≤�
 use Rattle.std.proofs.Common.{inl, inr, ⊎_elim, refl, sym, ◌∙◌, ap, subst, arith, append_assoc}
 use Rattle.std.proofs.lemmas.Bool.{and_from, eq-eqb, eqb-true, le-leb, leb-true, lt-ltb, ltb-true, or_left, or_right, and_parts}
 use Rattle.std.proofs.lemmas.Grind.{flat_map-append}
-use Rattle.wf_lemmas.proofs.Lists.{same_head, same_tail}
 use Rattle.wf_ast.specs.Tree.{Program}
 use Rattle.wf_events.specs.Reading.{meaning}
-use Rattle.wf_events.specs.Records.{Record, Started, Turned}
 use Rattle.wf_model.specs.Config.{Active, Answered, Call, Config, After, To, Wrong, NotNow}
 use Rattle.wf_model.specs.Ready.{request_in, request_of}
 use Rattle.wf_model.specs.Run.{Run, events_to, is_before, run, run_on}
 use Rattle.wf_model.specs.RunLaws.{FrontIsARun, NothingFollowsAnOutcome, RequestsStay, RunsAgree}
-use Rattle.wf_deeds.specs.At.{Journal, begins, config_at, journal, last_session, next_session, reached, turns_in, with_turn}
-use Rattle.wf_deeds.specs.History.{History, Standing, events, goes_on_at, history, in_order}
+use Rattle.wf_deeds.proofs.HistoryMoments.{journal_of, more_turns, turns_in-append, with_more}
+use Rattle.wf_deeds.specs.At.{Journal, config_at, journal, last_session, next_session, reached, turns_in}
+use Rattle.wf_deeds.specs.History.{Standing, events, goes_on_at, history, in_order, turns_of}
 use Rattle.wf_deeds.specs.Language.{Language}
 use Rattle.wf_deeds.specs.HistoryLaws.{ComputedIsHistory}
 use Rattle.wf_value.specs.Events.{Event, Turn}
@@ -26,57 +25,17 @@ pub record Facts (L : Language) (J : List (List ℕ)) (c : Config) : Type 0 wher
   pub order : IsTrue (in_order 0 0 found.turns)
   pub whole : Run found.program found.start (events found.turns) c
 
-abbrev turned : Turn → Option Record
-turned t = Some (Turned t)
-
--- the turns of records that are turns
-turns_are : (bs : List (List ℕ)) (ts : List Turn) → map meaning bs ≡ map turned ts → turns_in bs ≡ ts
-turns_are [] [] meant = refl
-turns_are [] (u ∷ us) meant = absurd cc
-turns_are (b ∷ bs) [] meant = absurd cc
-turns_are (b ∷ bs) (u ∷ us) meant =
-    ap (λ r. with_turn r (turns_in bs)) (same_head (meaning b) (Some (Turned u)) (map meaning bs) (map turned us) meant)
-    ∙ ap (λ ts. u ∷ ts) (turns_are bs us (same_tail (meaning b) (Some (Turned u)) (map meaning bs) (map turned us) meant))
-
-journal_of : (L : Language) (b : List ℕ) (bs : List (List ℕ)) (c : Config) (h : History L (b ∷ bs) c) → journal L (b ∷ bs) ≡ Some (record { start = h.start; program = h.program; turns = h.turns })
-journal_of L b bs c h =
-    ap (λ r. begins L r (turns_in bs)) (same_head (meaning b) (Some (Started h.start)) (map meaning bs) (map turned h.turns) h.meanings)
-    ∙ ap (λ o. option_map (λ p. record { start = h.start; program = p; turns = turns_in bs }) o) h.accepted
-    ∙ ap (λ ts. Some (record { start = h.start; program = h.program; turns = ts })) (turns_are bs h.turns (same_tail (meaning b) (Some (Started h.start)) (map meaning bs) (map turned h.turns) h.meanings))
-
 pub facts : ComputedIsHistory → (L : Language) (J : List (List ℕ)) (s : Standing) → history L J ≡ Ok s → Facts L J s.config
 unfolding history
 facts computed L [] s is = absurd cc
 facts computed L (b ∷ bs) s is = let h = computed L (b ∷ bs) s is in record {
-  found = record { start = h.start; program = h.program; turns = h.turns };
+  found = record { start = h.start; program = h.program; turns = turns_of h.rest };
   is = journal_of L b bs s.config h;
   order = h.order;
   whole = h.one_run;
 }
 
 -- ## More records
-abbrev pub with_more : Journal → List Turn → Journal
-with_more j ts = record { start = j.start; program = j.program; turns = j.turns ++ ts }
-
-with_turn-append : (r : Option Record) (ts us : List Turn) → with_turn r (ts ++ us) ≡ with_turn r ts ++ us
-with_turn-append None ts us = refl
-with_turn-append (Some (Turned t)) ts us = refl
-with_turn-append (Some r) ts us = refl
-
-turns_in-append : (bs cs : List (List ℕ)) → turns_in (bs ++ cs) ≡ turns_in bs ++ turns_in cs
-turns_in-append [] cs = refl
-turns_in-append (b ∷ bs) cs = ap (λ ts. with_turn (meaning b) ts) (turns_in-append bs cs) ∙ with_turn-append (meaning b) (turns_in bs) (turns_in cs)
-
-more_turns : (L : Language) (r : Option Record) (ts us vs : List Turn) (j : Journal) → begins L r ts ≡ Some j → us ≡ ts ++ vs → begins L r us ≡ Some (with_more j vs)
-more_turns L (Some (Started s)) ts us vs j is same =
-    ap (λ ws. begins L (Some (Started s)) ws) same
-    ∙ (elim (L.source s.source) as (λ o. option_map (λ p. record { start = s; program = p; turns = ts }) o ≡ Some j → option_map (λ p. record { start = s; program = p; turns = ts ++ vs }) o ≡ Some (with_more j vs)) [
-      | None ↦ λ no. absurd (cc no)
-      | Some p ↦ λ yes. let have : record { start = s; program = p; turns = ts } ≡ j = cc yes in ap (λ i. Some (with_more i vs)) have
-    ]) is
-more_turns L (Some r) ts us vs j is same = absurd cc
-more_turns L None ts us vs j is same = absurd cc
-
 more_records : (L : Language) (J more : List (List ℕ)) (j : Journal) → journal L J ≡ Some j → journal L (J ++ more) ≡ Some (with_more j (turns_in more))
 more_records L [] more j is = absurd cc
 more_records L (b ∷ bs) more j is = more_turns L (meaning b) (turns_in bs) (turns_in (bs ++ more)) (turns_in more) j is (turns_in-append bs more)

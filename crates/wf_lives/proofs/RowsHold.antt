@@ -1,5 +1,5 @@
 -- The worked examples hold: records are read from their bytes, their sources are worked examples of wf_source, and the rest computes.
-use Rattle.std.specs.Prelude.{◌≡◌, ℕ, List, [], ◌∷◌, map, Option, Some, None, option_and_then, Result, Ok, Err, codes}
+use Rattle.std.specs.Prelude.{◌≡◌, ℕ, true, false, List, [], ◌∷◌, map, Option, Some, None, option_and_then, Result, Ok, Err, codes}
 use Rattle.std.proofs.Common.{refl, ◌∙◌, ap}
 use Rattle.std.specs.Str.{chars, is_utf8}
 use Rattle.json.specs.Json.{value}
@@ -48,17 +48,17 @@ means_turn = refl
 
 -- ## Where they lead
 first_is : (source : List ℕ) (r : Result Program Refusal) → meaning (record_bytes (Started (start source))) ≡ Some (Started (start source)) → source_of source ≡ r
-    → first_standing the_language (meaning (record_bytes (Started (start source)))) ≡ option_and_then (λ p. started p (initial p (start source))) (accepted r)
-first_is source r means is = ap (λ o. first_standing the_language o) means ∙ ap (λ o. option_and_then (λ p. started p (initial p (start source))) o) (source_is source r is)
+    → first_standing the_language (meaning (record_bytes (Started (start source)))) ≡ option_and_then (λ p. started p false (initial p (start source))) (accepted r)
+first_is source r means is = ap (λ o. first_standing the_language o) means ∙ ap (λ o. option_and_then (λ p. started p false (initial p (start source))) o) (source_is source r is)
 
-outcome_is : (r : Record) (rs : List Record) (o : Option Standing) → first_standing the_language (meaning (record_bytes r)) ≡ o → outcome (r ∷ rs) ≡ outcome_of (history_from o (map record_bytes rs))
+outcome_is : (r : Record) (rs : List Record) (o : Option Standing) → first_standing the_language (meaning (record_bytes r)) ≡ o → outcome (r ∷ rs) ≡ outcome_of (history_from the_language o (map meaning (map record_bytes rs)))
 unfolding history
-outcome_is r rs o is = ap (λ x. outcome_of (history_from x (map record_bytes rs))) is
+outcome_is r rs o is = ap (λ x. outcome_of (history_from the_language x (map meaning (map record_bytes rs)))) is
 
 abbrev behind : Standing → Option Record → List (List ℕ) → Result Standing ℕ
-behind s r bs = elim (goes_on s r) [ None ↦ Err (told s.number) | Some t ↦ goes_to t bs ]
+behind s r bs = elim (goes_on the_language s r) [ None ↦ Err (told s.number) | Some t ↦ goes_to the_language t bs ]
 
-turn_on : (s : Standing) (bs : List (List ℕ)) → goes_to s (record_bytes (Turned turn) ∷ bs) ≡ behind s (Some (Turned turn)) bs
+turn_on : (s : Standing) (bs : List (List ℕ)) → goes_to the_language s (record_bytes (Turned turn) ∷ bs) ≡ behind s (Some (Turned turn)) bs
 turn_on s bs = ap (λ r. behind s r bs) means_turn
 
 abbrev config_of : After → Config
@@ -67,10 +67,10 @@ config_of a = empty (start sum)
 
 -- behind the start, and behind one turn
 abbrev first : Standing
-first = record { program = returns_a_sum; config = config_of (initial returns_a_sum (start sum)); number = 1; session = 0; waits = 0 }
+first = record { program = returns_a_sum; config = config_of (initial returns_a_sum (start sum)); number = 1; session = 0; waits = 0; two = false; marks = false }
 
 abbrev second : Standing
-second = record { program = returns_a_sum; config = config_of (run_on returns_a_sum (To first.config) (Move 0 ∷ [])); number = 2; session = 1; waits = 0 }
+second = record { program = returns_a_sum; config = config_of (run_on returns_a_sum (To first.config) (Move 0 ∷ [])); number = 2; session = 1; waits = 0; two = false; marks = true }
 
 begun : first_standing the_language (meaning (record_bytes (Started (start sum)))) ≡ Some first
 begun = first_is sum (Ok returns_a_sum) means_sum worked_sources.yaml

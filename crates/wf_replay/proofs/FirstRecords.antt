@@ -1,10 +1,11 @@
 -- Where a first record leads, and the records behind it.
-use Rattle.std.specs.Prelude.{◌≡◌, ◌≢◌, ◌⊎◌, ◌+◌, ℕ, length, List, [], ◌∷◌, Option, Some, None, Result, Ok, Err, IfErr, OnOk, IsErr, IsErrAnd, IsErrOf, option_and_then}
+use Rattle.std.specs.Prelude.{◌≡◌, ◌≢◌, ◌⊎◌, ◌+◌, ℕ, false, length, map, List, [], ◌∷◌, Option, Some, None, Result, Ok, Err, IfErr, OnOk, IsErr, IsErrAnd, IsErrOf, option_and_then}
 use Rattle.std.proofs.Common.{inl, inr, refl, sym, ◌∙◌, ap, subst}
 use Rattle.wf_ast.specs.Tree.{Program}
 use Rattle.wf_events.specs.Reading.{meaning}
 use Rattle.wf_events.specs.Records.{Record, Started, Turned, Kept, Upgrade, Packed, StartedTwo}
 use Rattle.wf_history.specs.Faults.{told}
+use Rattle.wf_history.specs.Kinds.{turn_in}
 use Rattle.wf_history.specs.Stands.{IsBadAt, last_after}
 use Rattle.wf_history.specs.declared.fault.HistoryFault.{HistoryFault}
 use Rattle.wf_history.specs.declared.fault.HistoryFault.TheVariants as history_fault
@@ -12,8 +13,8 @@ use Rattle.wf_machine.specs.Seen.{state_of}
 use Rattle.wf_machine.specs.declared.machine.Machine.{Machine}
 use Rattle.wf_model.specs.Config.{To}
 use Rattle.wf_model.specs.Run.{initial}
-use Rattle.wf_deeds.specs.At.{applied_by, turns_in, with_turn}
-use Rattle.wf_deeds.specs.History.{Standing, events, first_standing, goes_to, history, history_from, started}
+use Rattle.wf_deeds.specs.At.{applied_by, turns_in}
+use Rattle.wf_deeds.specs.History.{Standing, events, first_standing, goes_to, history, history_from, started, with_turn}
 use Rattle.wf_deeds.specs.Language.{Language}
 use Rattle.wf_replay.specs.EngineFaults.{fault_of, replay_fault}
 use Rattle.wf_replay.specs.Openings.{NoFirst}
@@ -25,29 +26,29 @@ use Rattle.wf_replay.specs.declared.fault.ReplayFault.{ReplayFault}
 use Rattle.wf_value.specs.Events.{Start, Turn}
 
 -- ## A first record
-at_first : (m : Machine) → stands_at 1 None m ≡ record { program = (state_of m).program; config = (state_of m).config; number = 1; session = 0; waits = 0 }
+at_first : (m : Machine) → stands_at 1 None m ≡ record { program = (state_of m).program; config = (state_of m).config; number = 1; session = 0; waits = 0; two = false; marks = false }
 unfolding stands_at
 at_first m = refl
 
 -- an accepted start leads where its machine stands
 pub start_leads : (L : Language) (s : Start) (p : Program) (m : Machine) → L.source s.source ≡ Some p → (state_of m).program ≡ p → initial p s ≡ To (state_of m).config → first_standing L (Some (Started s)) ≡ Some (stands_at 1 None m)
 start_leads L s p m accepted program begins_at =
-    ap (λ o. option_and_then (λ q. started q (initial q s)) o) accepted
-    ∙ ap (λ a. started p a) begins_at
-    ∙ ap (λ q. Some (record { program = q; config = (state_of m).config; number = 1; session = 0; waits = 0 })) (sym program)
+    ap (λ o. option_and_then (λ q. started q false (initial q s)) o) accepted
+    ∙ ap (λ a. started p false a) begins_at
+    ∙ ap (λ q. Some (record { program = q; config = (state_of m).config; number = 1; session = 0; waits = 0; two = false; marks = false })) (sym program)
     ∙ ap Some (sym (at_first m))
 
 pub start_refused : (L : Language) (s : Start) → L.source s.source ≡ None → first_standing L (Some (Started s)) ≡ None
-start_refused L s refused = ap (λ o. option_and_then (λ q. started q (initial q s)) o) refused
+start_refused L s refused = ap (λ o. option_and_then (λ q. started q false (initial q s)) o) refused
 
 -- ## The records behind it
-pub records_lead : (L : Language) (J : List (List ℕ)) (b : List ℕ) (bs : List (List ℕ)) (s : Standing) (r : Result Standing ℕ) → J ≡ b ∷ bs → first_standing L (meaning b) ≡ Some s → goes_to s bs ≡ r → history L J ≡ r
+pub records_lead : (L : Language) (J : List (List ℕ)) (b : List ℕ) (bs : List (List ℕ)) (s : Standing) (r : Result Standing ℕ) → J ≡ b ∷ bs → first_standing L (meaning b) ≡ Some s → goes_to L s bs ≡ r → history L J ≡ r
 unfolding history
-records_lead L J b bs s r is first leads = ap (λ l. history L l) is ∙ ap (λ o. history_from o bs) first ∙ leads
+records_lead L J b bs s r is first leads = ap (λ l. history L l) is ∙ ap (λ o. history_from L o (map meaning bs)) first ∙ leads
 
 pub records_stop : (L : Language) (J : List (List ℕ)) (b : List ℕ) (bs : List (List ℕ)) → J ≡ b ∷ bs → first_standing L (meaning b) ≡ None → history L J ≡ Err 0
 unfolding history
-records_stop L J b bs is first = ap (λ l. history L l) is ∙ ap (λ o. history_from o bs) first
+records_stop L J b bs is first = ap (λ l. history L l) is ∙ ap (λ o. history_from L o (map meaning bs)) first
 
 -- a payload that is no record is no first one
 pub bad_first : (L : Language) (n place : ℕ) (ahead : List (List ℕ)) → place ≡ 0 → IsBadAt n place ahead → NoFirst L n ahead
@@ -73,15 +74,19 @@ behind_first L place last found m at none leads = leads ∙ ap (λ n. Some (stan
   where
     no_turn : (r : Record) → first_standing L (Some r) ≡ Some (stands_at 1 None m) → last_after None r ≡ None
     no_turn (Started s) is = refl
-    no_turn r is = absurd (cc is)
+    no_turn (StartedTwo s) is = refl
+    no_turn (Turned t) is = absurd (cc is)
+    no_turn (Packed t) is = absurd (cc is)
+    no_turn (Kept k) is = absurd (cc is)
+    no_turn Upgrade is = absurd (cc is)
 
 -- the first one has no events
-no_turn_first : (L : Language) (m : Option Record) (ts : List Turn) (s : Standing) → first_standing L m ≡ Some s → with_turn m ts ≡ ts
+no_turn_first : (L : Language) (m : Option Record) (ts : List Turn) (s : Standing) → first_standing L m ≡ Some s → with_turn (turn_in m) ts ≡ ts
 no_turn_first L (Some (Started t)) ts s is = refl
 no_turn_first L (Some (Turned t)) ts s is = absurd cc
 no_turn_first L (Some (Kept k)) ts s is = refl
 no_turn_first L (Some Upgrade) ts s is = refl
-no_turn_first L (Some (Packed t)) ts s is = refl
+no_turn_first L (Some (Packed t)) ts s is = absurd cc
 no_turn_first L (Some (StartedTwo t)) ts s is = refl
 no_turn_first L None ts s is = refl
 
@@ -143,9 +148,9 @@ pub record Begins (L : Language) (ahead behind : List (List ℕ)) (s : Standing)
   pub next : ahead ≡ payload ∷ behind
   pub first : first_standing L (meaning payload) ≡ Some s
 
-later_cause : (L : Language) (ahead behind : List (List ℕ)) (s : Standing) (cause : ReplayFault) → Begins L ahead behind s → ((n : ℕ) → cause ≡ replay_fault_of.BadEvent n → goes_to s behind ≡ Err n) → IsNone L (replay_fault cause) ahead
+later_cause : (L : Language) (ahead behind : List (List ℕ)) (s : Standing) (cause : ReplayFault) → Begins L ahead behind s → ((n : ℕ) → cause ≡ replay_fault_of.BadEvent n → goes_to L s behind ≡ Err n) → IsNone L (replay_fault cause) ahead
 later_cause L ahead behind s (replay_fault_of.BadEvent m) b bad = λ n is. (
-  records_lead L ahead b.payload behind s (Err n) b.next b.first (subst (λ k. goes_to s behind ≡ Err k) (same_number m n is) (bad m refl)),
+  records_lead L ahead b.payload behind s (Err n) b.next b.first (subst (λ k. goes_to L s behind ≡ Err k) (same_number m n is) (bad m refl)),
   λ empty. let is_not : b.payload ∷ behind ≡ [] = sym b.next ∙ empty in cc is_not,
 )
 later_cause L ahead behind s replay_fault_of.DiskFault b bad = λ n is. absurd (cc is)
@@ -153,6 +158,6 @@ later_cause L ahead behind s replay_fault_of.Closed b bad = λ n is. absurd (cc 
 later_cause L ahead behind s replay_fault_of.OutOfMemory b bad = λ n is. absurd (cc is)
 
 pub at_later_record : {T : Type 0} (L : Language) (ahead behind : List (List ℕ)) (s : Standing) (r : Result T EngineFault) (cause : ReplayFault) → IsErr r × IsErrAnd r (λ e. e ≡ replay_fault cause) → Begins L ahead behind s
-    → ((n : ℕ) → cause ≡ replay_fault_of.BadEvent n → goes_to s behind ≡ Err n) → IfErr r (λ e. IsNone L e ahead)
+    → ((n : ℕ) → cause ≡ replay_fault_of.BadEvent n → goes_to L s behind ≡ Err n) → IfErr r (λ e. IsNone L e ahead)
 at_later_record L ahead behind s (Ok x) cause gives b bad = absurd gives.1
 at_later_record L ahead behind s (Err e) cause gives b bad = λ n is. later_cause L ahead behind s cause b bad n (sym gives.1 ∙ is)

@@ -8,11 +8,12 @@ use Rattle.wf_host.specs.World.{World, Told}
 use Rattle.wf_deeds.proofs.Steps.{on}
 use Rattle.wf_deeds.specs.History.{Standing, goes_on, goes_to, told}
 use Rattle.wf_machine.specs.declared.machine.Machine.{Machine}
+use Rattle.wf_replay.specs.TheLanguage.{the_language}
 use Rattle.wf_replay.specs.Standing.{Passes, standing}
 
 -- of the turns that are wanted so many are left: the others lead here, and what stands behind them comes next
 pub record GoneSoFar (first : World) (h g : History) (m n : Machine) (turns left : ℕ) : Type 0 where
-  pub leads : goes_to (standing h m) (take (turns - left) (ahead h first.seen)) ≡ Ok (standing g n)
+  pub leads : goes_to the_language (standing h m) (take (turns - left) (ahead h first.seen)) ≡ Ok (standing g n)
   pub rest : ahead g first.seen ≡ drop (turns - left) (ahead h first.seen)
 
 abbrev pub Gone : World → History → History → Machine → Machine → ℕ → ℕ → Type 0
@@ -27,23 +28,23 @@ pub none_gone : (first : World) (h : History) (m : Machine) (turns : ℕ) → Go
 none_gone first h m turns = λ _.
     let none : turns - turns ≡ 0 = omega arith in
     record {
-      leads = ap (λ k. goes_to (standing h m) (take k (ahead h first.seen))) none;
+      leads = ap (λ k. goes_to the_language (standing h m) (take k (ahead h first.seen))) none;
       rest = sym (ap (λ k. drop k (ahead h first.seen)) none);
     }
 
 -- ## Behind one more
 -- a record that goes on behind a front that leads here leads on
-one_more : (s t u : Standing) (k : ℕ) (all : List (List ℕ)) (b : List ℕ) (rest : List (List ℕ)) → goes_to s (take k all) ≡ Ok t → b ∷ rest ≡ drop k all → goes_on t (meaning b) ≡ Some u → goes_to s (take (suc k) all) ≡ Ok u
+one_more : (s t u : Standing) (k : ℕ) (all : List (List ℕ)) (b : List ℕ) (rest : List (List ℕ)) → goes_to the_language s (take k all) ≡ Ok t → b ∷ rest ≡ drop k all → goes_on the_language t (meaning b) ≡ Some u → goes_to the_language s (take (suc k) all) ≡ Ok u
 one_more s t u zero [] b rest is next goes = absurd cc
 one_more s t u zero (c ∷ cs) b rest is next goes =
     let here : s ≡ t = cc is in
     let same : b ≡ c = cc next in
-    on s u c [] (ap (λ x. goes_on x (meaning c)) here ∙ ap (λ d. goes_on t (meaning d)) (sym same) ∙ goes)
+    on the_language s u c [] (ap (λ x. goes_on the_language x (meaning c)) here ∙ ap (λ d. goes_on the_language t (meaning d)) (sym same) ∙ goes)
 one_more s t u (suc k) [] b rest is next goes = absurd cc
 one_more s t u (suc k) (c ∷ cs) b rest is next goes =
-    (elim (goes_on s (meaning c)) as (λ o. goes_on s (meaning c) ≡ o → (elim o [ None ↦ Err (told s.number) | Some v ↦ goes_to v (take k cs) ]) ≡ Ok t → goes_to s (take (suc (suc k)) (c ∷ cs)) ≡ Ok u) [
+    (elim (goes_on the_language s (meaning c)) as (λ o. goes_on the_language s (meaning c) ≡ o → (elim o [ None ↦ Err (told s.number) | Some v ↦ goes_to the_language v (take k cs) ]) ≡ Ok t → goes_to the_language s (take (suc (suc k)) (c ∷ cs)) ≡ Ok u) [
       | None ↦ λ e no. absurd (cc no)
-      | Some v ↦ λ e gone. on s v c (take (suc k) cs) e ∙ one_more v t u k cs b rest gone next goes
+      | Some v ↦ λ e gone. on the_language s v c (take (suc k) cs) e ∙ one_more v t u k cs b rest gone next goes
     ]) refl is
 
 rest_behind : (k : ℕ) (all : List (List ℕ)) (b : List ℕ) (rest : List (List ℕ)) → b ∷ rest ≡ drop k all → rest ≡ drop (suc k) all
@@ -60,18 +61,18 @@ one_further first h g f m n o turns left fewer gone passes within by_one = λ to
     let next : p.payload ∷ ahead f first.seen ≡ drop (turns - left) (ahead h first.seen) = sym p.next ∙ so_far.rest in
     let more : turns - fewer ≡ suc (turns - left) = omega (arith, within, by_one) in
     record {
-      leads = ap (λ k. goes_to (standing h m) (take k (ahead h first.seen))) more ∙ one_more (standing h m) (standing g n) (standing f o) (turns - left) (ahead h first.seen) p.payload (ahead f first.seen) so_far.leads next p.on;
+      leads = ap (λ k. goes_to the_language (standing h m) (take k (ahead h first.seen))) more ∙ one_more (standing h m) (standing g n) (standing f o) (turns - left) (ahead h first.seen) p.payload (ahead f first.seen) so_far.leads next p.on;
       rest = rest_behind (turns - left) (ahead h first.seen) p.payload (ahead f first.seen) next ∙ sym (ap (λ k. drop k (ahead h first.seen)) more);
     }
 
 -- ## Behind the last
 -- where all that are wanted went
 pub all_gone : (first : World) (h g : History) (m n : Machine) (turns left : ℕ) → Gone first h g m n turns left → left ≡ 0
-    → Told first ((goes_to (standing h m) (take turns (ahead h first.seen)) ≡ Ok (standing g n)) × (ahead g first.seen ≡ drop turns (ahead h first.seen)))
+    → Told first ((goes_to the_language (standing h m) (take turns (ahead h first.seen)) ≡ Ok (standing g n)) × (ahead g first.seen ≡ drop turns (ahead h first.seen)))
 all_gone first h g m n turns left gone none = λ told.
     let so_far = gone told in
     let all : turns ≡ turns - left = omega (arith, none) in (
-      ap (λ k. goes_to (standing h m) (take k (ahead h first.seen))) all ∙ so_far.leads,
+      ap (λ k. goes_to the_language (standing h m) (take k (ahead h first.seen))) all ∙ so_far.leads,
       so_far.rest ∙ sym (ap (λ k. drop k (ahead h first.seen)) all),
     )
 
@@ -93,12 +94,12 @@ dropped (suc k) (suc n) [] within none = refl
 dropped (suc k) (suc n) (c ∷ cs) within none = dropped k n cs (omega (arith, within)) none
 
 pub none_left : (first : World) (h g f : History) (m n o : Machine) (turns left : ℕ) → Gone first h g m n turns left → Told first ((ahead g first.seen ≡ []) × (standing f o ≡ standing g n)) → Told first (ahead f first.seen ≡ [])
-    → Told first ((goes_to (standing h m) (take turns (ahead h first.seen)) ≡ Ok (standing f o)) × (ahead f first.seen ≡ drop turns (ahead h first.seen)))
+    → Told first ((goes_to the_language (standing h m) (take turns (ahead h first.seen)) ≡ Ok (standing f o)) × (ahead f first.seen ≡ drop turns (ahead h first.seen)))
 none_left first h g f m n o turns left gone ended still = λ told.
     let so_far = gone told in
     let (none, stays) = ended told in
     let fewer : turns - left ≤ turns = omega arith in
     let no_more : drop (turns - left) (ahead h first.seen) ≡ [] = sym so_far.rest ∙ none in (
-      ap (λ l. goes_to (standing h m) l) (taken (turns - left) turns (ahead h first.seen) fewer no_more) ∙ so_far.leads ∙ ap Ok (sym stays),
+      ap (λ l. goes_to the_language (standing h m) l) (taken (turns - left) turns (ahead h first.seen) fewer no_more) ∙ so_far.leads ∙ ap Ok (sym stays),
       still told ∙ sym (dropped (turns - left) turns (ahead h first.seen) fewer no_more),
     )

@@ -11,11 +11,12 @@ use Rattle.wf_machine.specs.Seen.{state_of}
 use Rattle.wf_machine.specs.declared.machine.Machine.{Machine}
 use Rattle.wf_deeds.specs.At.{applied_by}
 use Rattle.wf_deeds.specs.History.{goes_to}
+use Rattle.wf_replay.specs.TheLanguage.{the_language}
 use Rattle.wf_replay.specs.Standing.{standing}
 
 -- what the loop keeps where the host tells, with the steps counted before it and by now
 pub record SoFar (first now : World) (h g : History) (m n : Machine) (before by_now : ℕ) : Type 0 where
-  pub leads : goes_to (standing h m) (ahead h first.seen) ≡ goes_to (standing g n) (ahead g first.seen)
+  pub leads : goes_to the_language (standing h m) (ahead h first.seen) ≡ goes_to the_language (standing g n) (ahead g first.seen)
   pub steps : by_now + applied_by (ahead g first.seen) ≡ before + applied_by (ahead h first.seen)
   pub seen : now.seen ≡ first.seen
   pub deeds : now.deeds ≡ first.deeds

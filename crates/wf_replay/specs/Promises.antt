@@ -1,8 +1,8 @@
 -- What replaying promises: each fact by its name. `before` and `after` are the history, `entry` and `exit` the host, `counted` and `count`
 -- the steps.
 use Rattle.std.specs.Prelude.{◌≡◌, ◌≢◌, ◌↔◌, ◌⊎◌, ◌+◌, [], ◌∷◌, ℕ, true, false, drop, take, List, Some, Ok, Err, IfOk, IfErr, OnOk, IsErrOf, Result}
-use Rattle.wf_deeds.specs.At.{applied_by}
-use Rattle.wf_deeds.specs.History.{first_standing, goes_to, history}
+use Rattle.wf_deeds.specs.At.{applied_by, to_apply}
+use Rattle.wf_deeds.specs.History.{first_standing, goes_to, opens}
 use Rattle.wf_events.specs.Reading.{meaning}
 use Rattle.wf_history.specs.Stands.{ahead, at_end, is_closed, is_new, Stands}
 use Rattle.wf_history.specs.declared.history.History.{History}
@@ -22,7 +22,7 @@ use Rattle.wf_replay.specs.declared.fault.ReplayFault.TheVariants as fault
 pub record Replays {H : Type 0} (world : H → World) (faults : H → Faults) (before after : History) (entry exit : H) (machine : Machine) (counted count : ℕ) (result : Result Machine ReplayFault) : Type 0 where
   -- ## The machine
   -- it stands where all records that come next lead
-  pub replayed : Told (world entry) (IfOk result (λ m. goes_to (standing before machine) (ahead before (world entry).seen) ≡ Ok (standing after m)))
+  pub replayed : Told (world entry) (IfOk result (λ m. goes_to the_language (standing before machine) (ahead before (world entry).seen) ≡ Ok (standing after m)))
   -- each event of theirs is one step
   pub steps : Told (world entry) (OnOk result (count ≡ counted + applied_by (ahead before (world entry).seen)))
   -- it isn't broken
@@ -43,7 +43,7 @@ pub record Replays {H : Type 0} (world : H → World) (faults : H → Faults) (b
   pub any_moment : is_closed before ≡ false → AtAnyMoment world entry exit (Stays (world entry))
   -- ## The errors
   -- only where this record is the first that doesn't go on
-  pub bad_event : Told (world entry) (IfErr result (λ e. (n : ℕ) → e ≡ fault.BadEvent n → goes_to (standing before machine) (ahead before (world entry).seen) ≡ Err n))
+  pub bad_event : Told (world entry) (IfErr result (λ e. (n : ℕ) → e ≡ fault.BadEvent n → goes_to the_language (standing before machine) (ahead before (world entry).seen) ≡ Err n))
   -- only where a disk call failed
   pub disk_fault : IsErrOf result fault.DiskFault → DiskFailed faults entry exit
   -- exactly where the history was closed before
@@ -61,7 +61,7 @@ pub record Replays {H : Type 0} (world : H → World) (faults : H → Faults) (b
 pub record ReplaysTurns {H : Type 0} (world : H → World) (faults : H → Faults) (before after : History) (entry exit : H) (machine : Machine) (turns counted count : ℕ) (result : Result Machine ReplayFault) : Type 0 where
   -- ## The machine
   -- it stands where so many of the records that come next lead, or all where there are fewer
-  pub replayed : Told (world entry) (IfOk result (λ m. goes_to (standing before machine) (take turns (ahead before (world entry).seen)) ≡ Ok (standing after m)))
+  pub replayed : Told (world entry) (IfOk result (λ m. goes_to the_language (standing before machine) (take turns (ahead before (world entry).seen)) ≡ Ok (standing after m)))
   -- each event of theirs is one step
   pub steps : Told (world entry) (OnOk result (count + applied_by (ahead after (world entry).seen) ≡ counted + applied_by (ahead before (world entry).seen)))
   -- it isn't broken
@@ -82,7 +82,7 @@ pub record ReplaysTurns {H : Type 0} (world : H → World) (faults : H → Fault
   pub any_moment : is_closed before ≡ false → AtAnyMoment world entry exit (Stays (world entry))
   -- ## The errors
   -- only where this record is the first of all that come next that doesn't go on
-  pub bad_event : Told (world entry) (IfErr result (λ e. (n : ℕ) → e ≡ fault.BadEvent n → goes_to (standing before machine) (ahead before (world entry).seen) ≡ Err n))
+  pub bad_event : Told (world entry) (IfErr result (λ e. (n : ℕ) → e ≡ fault.BadEvent n → goes_to the_language (standing before machine) (ahead before (world entry).seen) ≡ Err n))
   -- only where a disk call failed
   pub disk_fault : IsErrOf result fault.DiskFault → DiskFailed faults entry exit
   -- exactly where the history was closed before
@@ -137,9 +137,9 @@ pub record MakesFirst {H : Type 0} (world : H → World) (faults : H → Faults)
 pub record MakesLast {H : Type 0} (world : H → World) (faults : H → Faults) (before after : History) (entry exit : H) (counted count : ℕ) (result : Result Machine EngineFault) : Type 0 where
   -- ## The machine
   -- it stands where all records lead
-  pub leads : Told (world entry) (IfOk result (λ m. history the_language (ahead before (world entry).seen) ≡ Ok (standing after m)))
+  pub leads : Told (world entry) (IfOk result (λ m. opens the_language (ahead before (world entry).seen) ≡ Ok (standing after m)))
   -- each event of theirs is one step
-  pub steps : Told (world entry) (OnOk result (count ≡ counted + applied_by (ahead before (world entry).seen)))
+  pub steps : Told (world entry) (OnOk result (count ≡ counted + to_apply (ahead before (world entry).seen)))
   -- there is a record
   pub some : Told (world entry) (OnOk result (ahead before (world entry).seen ≢ []))
   -- it isn't broken
@@ -163,8 +163,8 @@ pub record MakesLast {H : Type 0} (world : H → World) (faults : H → Faults) 
   pub disk_fault : IsErrOf result engine.DiskFault → DiskFailed faults entry exit
   -- only where there is no record
   pub not_started : Told (world entry) (IsErrOf result engine.NotStarted → ahead before (world entry).seen ≡ [])
-  -- only where the records are no history, with the number of the first against it
-  pub not_a_history : Told (world entry) (IfErr result (λ e. (n : ℕ) → e ≡ engine.NotAHistory n → (history the_language (ahead before (world entry).seen) ≡ Err n) × (ahead before (world entry).seen ≢ [])))
+  -- only where the records don't open, with the number that is told
+  pub not_a_history : Told (world entry) (IfErr result (λ e. (n : ℕ) → e ≡ engine.NotAHistory n → (opens the_language (ahead before (world entry).seen) ≡ Err n) × (ahead before (world entry).seen ≢ [])))
   -- no other error comes
   pub only : OnlyErrorsOr engine.NotAHistory result (engine.DiskFault ∷ engine.NotStarted ∷ engine.OutOfMemory ∷ [])
   -- ## The host

@@ -1,11 +1,12 @@
 -- Where a history that was read and its machine stand.
-use Rattle.std.specs.Prelude.{◌≡◌, ℕ, List, ◌∷◌, Option, Some, None}
+use Rattle.std.specs.Prelude.{◌≡◌, ℕ, false, is_some, List, ◌∷◌, Option, Some, None}
 use Rattle.wf_events.specs.Reading.{meaning}
 use Rattle.wf_history.specs.Stands.{place, last}
 use Rattle.wf_history.specs.declared.history.History as history
 use Rattle.wf_machine.specs.Seen.{state_of}
 use Rattle.wf_machine.specs.declared.machine.Machine as machine
 use Rattle.wf_deeds.specs.History.{Standing, goes_on}
+use Rattle.wf_replay.specs.TheLanguage.{the_language}
 
 abbrev pub session_of : Option (ℕ × ℕ) → ℕ
 session_of None = 0
@@ -15,7 +16,7 @@ abbrev pub waits_of : Option (ℕ × ℕ) → ℕ
 waits_of None = 0
 waits_of (Some p) = p.1
 
--- the machine's program and configuration behind so many records, with the session and the waits of the last turn
+-- the machine's program and configuration behind so many records of the first format, with the session and the waits of the last turn
 unfoldable pub stands_at : ℕ → Option (ℕ × ℕ) → machine.Machine → Standing
 stands_at number last m = record {
   program = (state_of m).program;
@@ -23,6 +24,8 @@ stands_at number last m = record {
   number = number;
   session = session_of last;
   waits = waits_of last;
+  two = false;
+  marks = is_some last;
 }
 
 -- the same behind the records that a history has read
@@ -33,4 +36,4 @@ standing h m = stands_at (place h) (last h) m
 pub record Passes (s t : Standing) (ahead rest : List (List ℕ)) : Type 0 where
   pub payload : List ℕ
   pub next : ahead ≡ payload ∷ rest
-  pub on : goes_on s (meaning payload) ≡ Some t
+  pub on : goes_on the_language s (meaning payload) ≡ Some t

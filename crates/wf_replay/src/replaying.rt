@@ -13,6 +13,7 @@ ghost use Rattle.wf_deeds.specs.History.{goes_on, goes_on_at, goes_to, is_number
 ghost use Rattle.wf_replay.specs.Applying.{AppliesEvents};
 ghost use Rattle.wf_replay.specs.Promises.{Replays, ReplaysTurns};
 ghost use Rattle.wf_replay.specs.Standing.{Passes, session_of, standing, stands_at, waits_of};
+ghost use Rattle.wf_replay.specs.TheLanguage.{the_language};
 ghost use Rattle.wf_value.specs.Events.{Move};
 
 use crate::ReplayFault;
@@ -96,9 +97,10 @@ fn replay_next<H: Host, L: Ledger>(
     ensures stands { is_closed history.new ≡ false
         → Told (H.world host.old) (Stands history.new (H.world host.new)) }
     ensures leads { Told (H.world host.old)
-        (OnOk result (goes_to (standing history.old machine.old)
+        (OnOk result (goes_to the_language (standing history.old machine.old)
         (ahead history.old (H.world host.old).seen)
-        ≡ goes_to (standing history.new machine.new) (ahead history.new (H.world host.old).seen))) }
+        ≡ goes_to the_language (standing history.new machine.new)
+        (ahead history.new (H.world host.old).seen))) }
     ensures steps { Told (H.world host.old)
         (OnOk result (steps.new + applied_by (ahead history.new (H.world host.old).seen)
         ≡ steps.old + applied_by (ahead history.old (H.world host.old).seen))) }
@@ -116,8 +118,8 @@ fn replay_next<H: Host, L: Ledger>(
     ensures shorter { IfOk result (λ more. more ≡ true → unread history.new < unread history.old) }
     ensures bad_event { Told (H.world host.old)
         (IfErr result (λ e. (n : ℕ) → e ≡ ReplayFault.BadEvent n
-        → goes_to (standing history.old machine.old) (ahead history.old (H.world host.old).seen)
-        ≡ Err n)) }
+        → goes_to the_language (standing history.old machine.old)
+        (ahead history.old (H.world host.old).seen) ≡ Err n)) }
     ensures new { is_new history.new ≡ is_new history.old }
     ensures seen { ReadsAsBefore H.world host.old host.new }
     ensures any_moment { is_closed history.old ≡ false
@@ -152,14 +154,15 @@ fn replay_record<L: Ledger>(
     steps: &mut Steps<L>,
 ) -> Result<(), ReplayFault>
     requires whole { (state_of machine.old).broken ≡ false }
-    ensures goes_on { OnOk result (goes_on (stands_at number last machine.old)
+    ensures goes_on { OnOk result (goes_on the_language (stands_at number last machine.old)
         (Some (record_view next.now))
         ≡ Some (stands_at (suc number) (last_after last (record_view next.now)) machine.new)) }
     ensures steps { OnOk result (steps.new
         ≡ steps.old + length (events_of (record_view next.now))) }
     ensures whole { OnOk result ((state_of machine.new).broken ≡ false) }
     ensures bad_event { IfErr result (λ e. (n : ℕ) → e ≡ ReplayFault.BadEvent n
-        → (goes_on (stands_at number last machine.old) (Some (record_view next.now)) ≡ None)
+        → (goes_on the_language (stands_at number last machine.old)
+        (Some (record_view next.now)) ≡ None)
         × (n ≡ told number)) }
     ensures only { OnlyErrors result (ReplayFault.OutOfMemory ∷
         (ReplayFault.BadEvent (told number)) ∷ []) }

@@ -6,7 +6,8 @@ use Rattle.wf_host.specs.Moments.{joined}
 use Rattle.wf_host.specs.World.{World, LeavesOnly}
 use Rattle.wf_journal.specs.Journal.{IsJournal, Stays}
 use Rattle.wf_journal.specs.Records.{magic, records}
-use Rattle.wf_deeds.specs.History.{history}
+use Rattle.wf_deeds.proofs.Playing.{played_is_history}
+use Rattle.wf_deeds.specs.History.{history, plays}
 use Rattle.wf_deeds.specs.Language.{Language}
 use Rattle.wf_machine.specs.Seen.{state_of}
 use Rattle.wf_machine.specs.declared.machine.Machine.{Machine}
@@ -33,6 +34,13 @@ no_history_for L file J (Err e) same may h = λ n is.
     let it = h n is in
     let some : records file ≢ [] = subst (λ K. K ≢ []) same it.1 in
     (ap (history L) (sym same) ∙ it.0, some, magic_found file may some)
+
+-- and so they don't play
+pub no_play_for : {X : Type 0} (L : Language) (file : List ℕ) (r : Result X EngineFault)
+    → IfErr r (λ e. (n : ℕ) → e ≡ fault.NotAHistory n → (history L (records file) ≡ Err n) × (records file ≢ []) × (take 4 file ≡ magic))
+    → IfErr r (λ e. (n : ℕ) → e ≡ fault.NotAHistory n → (plays L (records file) ≡ Err n) × (records file ≢ []) × (take 4 file ≡ magic))
+no_play_for L file (Ok x) h = tt
+no_play_for L file (Err e) h = λ n is. let it = h n is in (played_is_history L (records file) ∙ it.0, it.1, it.2)
 
 -- where all records lead
 pub leads_found : (L : Language) (file : List ℕ) (J : List (List ℕ)) (h : History) (r : Result Machine EngineFault) → J ≡ records file → IfOk r (λ m. history L J ≡ Ok (standing h m)) → IfOk r (λ m. Reaches L (records file) (state_of m).config)

@@ -2,8 +2,8 @@
 -- and `faults` are what a host stands for and its counts of faults.
 use Rattle.std.specs.Prelude.{◌≡◌, ◌≢◌, ◌≤◌, ◌+◌, ℕ, false, [], ◌∷◌, length, take, string_bytes, Result, String, Err, IfOk, IfErr, OnOk, IsErrOf}
 use Rattle.std.specs.declared.alloc.Global.{Global}
-use Rattle.wf_deeds.specs.At.{applied_by}
-use Rattle.wf_deeds.specs.History.{history}
+use Rattle.wf_deeds.specs.At.{applied_by, to_apply}
+use Rattle.wf_deeds.specs.History.{opens, plays}
 use Rattle.wf_host.specs.Calls.{AtAnyMoment, DiskFailed, DoesNoDeed, NoCountFalls, OnlyErrorsOr, ReadsAsBefore, TellsAsBefore}
 use Rattle.wf_host.specs.World.{World, Faults, Told, Only}
 use Rattle.wf_journal.specs.Journal.{IsJournal}
@@ -20,7 +20,7 @@ pub record ReadsTheLastState {H : Type 0} (world : H → World) (faults : H → 
   -- the machine stands where all records of the file lead
   pub leads : Told (world old) (IfOk r (λ m. Reaches the_language (records (world old).seen) (state_of m).config))
   -- each of their events is one step
-  pub steps : Told (world old) (OnOk r (behind ≡ before + applied_by (records (world old).seen)))
+  pub steps : Told (world old) (OnOk r (behind ≡ before + to_apply (records (world old).seen)))
   -- the machine isn't broken
   pub whole : IfOk r (λ m. (state_of m).broken ≡ false)
   -- on Ok the file has the magic
@@ -39,8 +39,8 @@ pub record ReadsTheLastState {H : Type 0} (world : H → World) (faults : H → 
   pub settled : Told (world old) (OnOk r (Only (world new).seen (world new).may_leave))
   -- and so was that there is no record
   pub settled_empty : Told (world old) (IsErrOf r fault.NotStarted → Only (world new).seen (world new).may_leave)
-  -- NotAHistory comes only where the records are no history, with that number
-  pub not_a_history : Told (world old) (IfErr r (λ e. (n : ℕ) → e ≡ fault.NotAHistory n → (history the_language (records (world old).seen) ≡ Err n) × (records (world old).seen ≢ []) × (take 4 (world old).seen ≡ magic)))
+  -- NotAHistory comes only where the records don't open, with that number
+  pub not_a_history : Told (world old) (IfErr r (λ e. (n : ℕ) → e ≡ fault.NotAHistory n → (opens the_language (records (world old).seen) ≡ Err n) × (records (world old).seen ≢ []) × (take 4 (world old).seen ≡ magic)))
   -- no other fault comes
   pub only : OnlyErrorsOr fault.NotAHistory r (fault.DiskFault ∷ fault.NotAJournal ∷ fault.NotStarted ∷ fault.OutOfMemory ∷ [])
   -- no deed is done
@@ -72,8 +72,8 @@ pub record ReadsAnEarlierState {H : Type 0} (world : H → World) (faults : H �
   pub settled : Told (world old) (OnOk r (Only (world new).seen (world new).may_leave))
   -- and so was that there is no record
   pub settled_empty : Told (world old) (IsErrOf r fault.NotStarted → Only (world new).seen (world new).may_leave)
-  -- NotAHistory comes only where the records are no history, with that number
-  pub not_a_history : Told (world old) (IfErr r (λ e. (n : ℕ) → e ≡ fault.NotAHistory n → (history the_language (records (world old).seen) ≡ Err n) × (records (world old).seen ≢ []) × (take 4 (world old).seen ≡ magic)))
+  -- NotAHistory comes only where the records don't play, with that number
+  pub not_a_history : Told (world old) (IfErr r (λ e. (n : ℕ) → e ≡ fault.NotAHistory n → (plays the_language (records (world old).seen) ≡ Err n) × (records (world old).seen ≢ []) × (take 4 (world old).seen ≡ magic)))
   -- no other fault comes
   pub only : OnlyErrorsOr fault.NotAHistory r (fault.DiskFault ∷ fault.NotAJournal ∷ fault.NotStarted ∷ fault.OutOfMemory ∷ [])
   -- no deed is done

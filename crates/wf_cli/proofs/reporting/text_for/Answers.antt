@@ -2,7 +2,7 @@ use Rattle.std.proofs.Common.{◌≡◌, ◌∙◌, IfOk, rules, sym, subst}
 use Rattle.std.specs.Prelude.{string_bytes}
 use Rattle.wf_args.specs.Lines.{turn_of}
 use Rattle.wf_args.specs.Plain.{plain_line}
-use Rattle.wf_cli.proofs.Readings.{front_read, lacks_read, passed_read, tells_whole, text_read}
+use Rattle.wf_cli.proofs.Readings.{front_read, lacks_read, no_play_read, passed_read, tells_whole, text_read}
 use Rattle.wf_cli.proofs.reporting.text_for.Goals as goal
 use Rattle.wf_journal.specs.Records.{records}
 use Rattle.wf_machine.specs.Seen.{state_of}
@@ -20,7 +20,7 @@ returns-in-At-clause-reads g c = λ told.
       begins = k.begins told;
       not_a_journal = k.not_a_journal told;
       not_started = k.not_started told;
-      not_a_history = k.not_a_history told;
+      not_a_history = no_play_read old.seen c.state_at.result (k.not_a_history told);
       settled = k.settled told;
       settled_empty = k.settled_empty told;
       seen = k.seen told;

@@ -64,3 +64,9 @@ returns-clause-poll c = hearing.poll_is_kept c.laws_of_moments.ensures.history_s
 
 pub returns-clause-handed : goal.returns-clause-handed
 returns-clause-handed c = handed.handed_stands c.laws_of_deeds.ensures.handed
+
+pub returns-clause-turn_leads : goal.returns-clause-turn_leads
+returns-clause-turn_leads c = turned.turn_leads_on c.laws_of_histories.ensures.record_goes_on
+
+pub returns-clause-hearing_leads : goal.returns-clause-hearing_leads
+returns-clause-hearing_leads c = hearing.hearing_leads_on

@@ -56,7 +56,7 @@ returns-in_err-replay g c =
           let (payload, next, first) = c.in_ok-machine.ensures.leads told in
           at_later_record the_language (ahead c.args.history.now w.seen) (ahead h w.seen) s c.from_residual-in_err-replay.result c.in_err-replay.field-0.0 c.from_residual-in_err-replay.ensures
           (record { payload = payload; next = next; first = first })
-          (λ n is. ap (λ l. goes_to s (ahead h l)) (sym (c.first_machine.ensures.seen told)) ∙ c.in_err-replay.ensures.bad_event (tells_still w mid c.first_machine.ensures.tells told) n is);
+          (λ n is. ap (λ l. goes_to the_language s (ahead h l)) (sym (c.first_machine.ensures.seen told)) ∙ c.in_err-replay.ensures.bad_event (tells_still w mid c.first_machine.ensures.tells told) n is);
       only = search rules;
       deeds = search rules;
       tells = search rules;
@@ -73,7 +73,7 @@ returns g c =
       leads = λ told.
           let (payload, next, first) = c.in_ok-machine.ensures.leads told in
           records_lead the_language (ahead c.args.history.now w.seen) payload (ahead h w.seen) s (Ok (standing c.replay.new.history c.in_ok-replay.field-0)) next first
-          (ap (λ l. goes_to s (ahead h l)) (sym (c.first_machine.ensures.seen told)) ∙ c.in_ok-replay.ensures.replayed (tells_still w mid c.first_machine.ensures.tells told));
+          (ap (λ l. goes_to the_language s (ahead h l)) (sym (c.first_machine.ensures.seen told)) ∙ c.in_ok-replay.ensures.replayed (tells_still w mid c.first_machine.ensures.tells told));
       steps = λ told.
           let (payload, next, first) = c.in_ok-machine.ensures.leads told in
           applied_in_all the_language (ahead c.args.history.now w.seen) payload (ahead h w.seen) s c.args.steps.now c.replay.new.steps next first

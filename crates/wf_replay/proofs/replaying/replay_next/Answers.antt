@@ -4,6 +4,7 @@ use Rattle.wf_events.specs.Reading.{meaning}
 use Rattle.wf_events.specs.View.{record_view}
 use Rattle.wf_history.specs.Stands.{ahead, last, last_after, place}
 use Rattle.wf_deeds.specs.History.{goes_on}
+use Rattle.wf_replay.specs.TheLanguage.{the_language}
 use Rattle.wf_replay.proofs.Applied.{passed}
 use Rattle.wf_replay.proofs.Faults.{IsToldAt, at_no_record, at_record}
 use Rattle.wf_replay.proofs.Steps.{passes_one}
@@ -38,4 +39,4 @@ returns-clause-one g c = λ told _.
     let number = subst (λ o. MatchOption o (place c.next.new.self ≡ place c.args.history.now) (λ _. place c.next.new.self ≡ suc (place c.args.history.now))) c.in-Some.is (c.in_ok-record.ensures.place told) in
     let turn = subst (λ o. MatchOption o (last c.next.new.self ≡ last c.args.history.now) (λ r. last c.next.new.self ≡ last_after (last c.args.history.now) (record_view r))) c.in-Some.is c.in_ok-record.ensures.last in
     passes_one (place c.args.history.now) (place c.next.new.self) (last c.args.history.now) (last c.next.new.self) c.args.machine.now c.replay_record.new.machine found.0 (ahead c.next.new.self w.seen) (ahead c.args.history.now w.seen) r found.1 found.2
-    (subst₂ (λ p l. goes_on (stands_at p l c.args.machine.now) (Some r) ≡ Some (stands_at (suc p) (last_after l r) c.replay_record.new.machine)) c.place-number.ensures c.last-last.ensures c.in_ok-replay_record.ensures.goes_on) number turn
+    (subst₂ (λ p l. goes_on the_language (stands_at p l c.args.machine.now) (Some r) ≡ Some (stands_at (suc p) (last_after l r) c.replay_record.new.machine)) c.place-number.ensures c.last-last.ensures c.in_ok-replay_record.ensures.goes_on) number turn

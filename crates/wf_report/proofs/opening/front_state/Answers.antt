@@ -28,7 +28,7 @@ returns-in_err-stood-clause-not_a_history g c = λ told.
     let s = standing h1 c.in_ok-machine.machine in
     let (payload, next, first) = c.in_ok-machine.ensures.leads told in
     at_later_record the_language (ahead c.args.history.now w.seen) (ahead h1 w.seen) s c.from_residual-in_err-stood.result c.in_err-stood.field-0.0 c.from_residual-in_err-stood.ensures (record { payload = payload; next = next; first = first })
-    (λ n is. ap (λ f. goes_to s (ahead h1 f)) (sym seen1) ∙ c.in_err-stood.ensures.bad_event told1 n is)
+    (λ n is. ap (λ f. goes_to the_language s (ahead h1 f)) (sym seen1) ∙ c.in_err-stood.ensures.bad_event told1 n is)
 
 pub returns-in_err-replay-clause-not_a_history : goal.returns-in_err-replay-clause-not_a_history
 returns-in_err-replay-clause-not_a_history g c = λ told.
@@ -44,9 +44,9 @@ returns-in_err-replay-clause-not_a_history g c = λ told.
     let seen2 = c.replay_turns.ensures.seen told1 in
     let h2 = c.replay_turns.new.history in
     let s2 = standing h2 c.in_ok-stood.stood in
-    let front : goes_to s (take c.args.turns (ahead h1 w.seen)) ≡ Ok s2 = ap (λ f. goes_to s (take c.args.turns (ahead h1 f))) (sym seen1) ∙ c.in_ok-stood.ensures.replayed told1 in
-    let behind : goes_to s2 (drop c.args.turns (ahead h1 w.seen)) ≡ goes_to s2 (ahead h2 m2.seen) =
-    ap (λ f. goes_to s2 (drop c.args.turns (ahead h1 f))) (sym seen1) ∙ ap (goes_to s2) (sym (c.in_ok-stood.ensures.left told1)) ∙ ap (λ f. goes_to s2 (ahead h2 f)) (sym seen2) in
+    let front : goes_to the_language s (take c.args.turns (ahead h1 w.seen)) ≡ Ok s2 = ap (λ f. goes_to the_language s (take c.args.turns (ahead h1 f))) (sym seen1) ∙ c.in_ok-stood.ensures.replayed told1 in
+    let behind : goes_to the_language s2 (drop c.args.turns (ahead h1 w.seen)) ≡ goes_to the_language s2 (ahead h2 m2.seen) =
+    ap (λ f. goes_to the_language s2 (drop c.args.turns (ahead h1 f))) (sym seen1) ∙ ap (goes_to the_language s2) (sym (c.in_ok-stood.ensures.left told1)) ∙ ap (λ f. goes_to the_language s2 (ahead h2 f)) (sym seen2) in
     rest_stops c.laws_of_histories.ensures.records_go_on the_language (ahead c.args.history.now w.seen) payload (ahead h1 w.seen) c.args.turns s s2 next first front c.from_residual-in_err-replay.result c.in_err-replay.field-0.0 c.from_residual-in_err-replay.ensures
     (λ n is. behind ∙ c.in_err-replay.ensures.bad_event told2 n is)
 
@@ -64,9 +64,9 @@ returns-clause-shows g c = λ told.
     let seen2 = c.replay_turns.ensures.seen told1 in
     let h2 = c.replay_turns.new.history in
     let s2 = standing h2 c.in_ok-stood.stood in
-    let front : goes_to s (take c.args.turns (ahead h1 w.seen)) ≡ Ok s2 = ap (λ f. goes_to s (take c.args.turns (ahead h1 f))) (sym seen1) ∙ c.in_ok-stood.ensures.replayed told1 in
-    let behind : goes_to s2 (drop c.args.turns (ahead h1 w.seen)) ≡ goes_to s2 (ahead h2 m2.seen) =
-    ap (λ f. goes_to s2 (drop c.args.turns (ahead h1 f))) (sym seen1) ∙ ap (goes_to s2) (sym (c.in_ok-stood.ensures.left told1)) ∙ ap (λ f. goes_to s2 (ahead h2 f)) (sym seen2) in
+    let front : goes_to the_language s (take c.args.turns (ahead h1 w.seen)) ≡ Ok s2 = ap (λ f. goes_to the_language s (take c.args.turns (ahead h1 f))) (sym seen1) ∙ c.in_ok-stood.ensures.replayed told1 in
+    let behind : goes_to the_language s2 (drop c.args.turns (ahead h1 w.seen)) ≡ goes_to the_language s2 (ahead h2 m2.seen) =
+    ap (λ f. goes_to the_language s2 (drop c.args.turns (ahead h1 f))) (sym seen1) ∙ ap (goes_to the_language s2) (sym (c.in_ok-stood.ensures.left told1)) ∙ ap (λ f. goes_to the_language s2 (ahead h2 f)) (sym seen2) in
     let config = (state_of c.in_ok-stood.stood).config in (
       config,
       stands c.laws_of_histories.ensures.records_go_on the_language (ahead c.args.history.now w.seen) payload (ahead h1 w.seen) c.args.turns s s2 next first front (standing c.replay.new.history c.in_ok-replay.field-0) config (behind ∙ c.in_ok-replay.ensures.replayed told2) (config_is h2 c.in_ok-stood.stood),
@@ -87,9 +87,9 @@ returns-clause-steps g c = λ told.
     let seen2 = c.replay_turns.ensures.seen told1 in
     let h2 = c.replay_turns.new.history in
     let s2 = standing h2 c.in_ok-stood.stood in
-    let front : goes_to s (take c.args.turns (ahead h1 w.seen)) ≡ Ok s2 = ap (λ f. goes_to s (take c.args.turns (ahead h1 f))) (sym seen1) ∙ c.in_ok-stood.ensures.replayed told1 in
-    let behind : goes_to s2 (drop c.args.turns (ahead h1 w.seen)) ≡ goes_to s2 (ahead h2 m2.seen) =
-    ap (λ f. goes_to s2 (drop c.args.turns (ahead h1 f))) (sym seen1) ∙ ap (goes_to s2) (sym (c.in_ok-stood.ensures.left told1)) ∙ ap (λ f. goes_to s2 (ahead h2 f)) (sym seen2) in
+    let front : goes_to the_language s (take c.args.turns (ahead h1 w.seen)) ≡ Ok s2 = ap (λ f. goes_to the_language s (take c.args.turns (ahead h1 f))) (sym seen1) ∙ c.in_ok-stood.ensures.replayed told1 in
+    let behind : goes_to the_language s2 (drop c.args.turns (ahead h1 w.seen)) ≡ goes_to the_language s2 (ahead h2 m2.seen) =
+    ap (λ f. goes_to the_language s2 (drop c.args.turns (ahead h1 f))) (sym seen1) ∙ ap (goes_to the_language s2) (sym (c.in_ok-stood.ensures.left told1)) ∙ ap (λ f. goes_to the_language s2 (ahead h2 f)) (sym seen2) in
     let turns_counted = c.in_ok-stood.ensures.steps told1 in
     let rest_counted = c.in_ok-replay.ensures.steps told2 ∙ ap (λ f. c.replay_turns.new.steps + applied_by (ahead h2 f)) seen2 in
     let all : c.replay.new.steps ≡ c.args.steps.now + applied_by (ahead h1 w.seen) = rest_counted ∙ turns_counted ∙ ap (λ f. c.args.steps.now + applied_by (ahead h1 f)) seen1 in

@@ -8,7 +8,7 @@ use Rattle.wf_deeds.specs.At.{applied_by}
 use Rattle.wf_replay.proofs.OnlyReads.{magic_found, quiet_stays, settled_behind}
 use Rattle.wf_replay.proofs.StillOpen.{tells_still}
 use Rattle.wf_replay.specs.TheLanguage.{the_language}
-use Rattle.wf_report.proofs.Opened.{no_history_for, shows_found}
+use Rattle.wf_report.proofs.Opened.{no_history_for, no_play_for, shows_found}
 use Rattle.wf_report.proofs.opening.state_at.Goals as goal
 
 pub returns : goal.returns
@@ -33,7 +33,7 @@ returns g c =
       settled = λ told. on_ok {Q = Only late.seen late.may_leave} c.front_state.result (λ stands. stands.journal.settled) (rest.stands (on told));
       settled_empty = λ told is.
           settled_behind mid late (rest.any_moment (on told)) (λ t i le now. g.met.H.Host.counts_now c.front_state.new.host t i (tells_still mid late rest.tells (on told)) le now) (rest.seen (on told));
-      not_a_history = λ told. no_history_for the_language w.seen J c.front_state.result (found told) (c.in_ok-history.ensures.a_journal told) (rest.not_a_history (on told));
+      not_a_history = λ told. no_play_for the_language w.seen c.front_state.result (no_history_for the_language w.seen J c.front_state.result (found told) (c.in_ok-history.ensures.a_journal told) (rest.not_a_history (on told)));
       only = search rules;
       deeds = λ told. rest.deeds (on told) ∙ file.deeds told;
       tells = rest.tells ∙ file.tells;

@@ -17,7 +17,7 @@ returns c =
           let m = memory e in
           let r : c.max-self.result ≡ max e.reading c.args.heard.reading = c.max-self.ensures in
           let w : e.waits + 1 ≡ suc e.waits = omega arith in
-          takes O m.program m.config m.session m.reading m.waits m.started m.dropped m.told m.taken c.args.heard (is_started b) (is_dropped b) (told b) c.in_ok-self.field-0 c.in_ok-hear.ensures.stands.started c.in_ok-hear.ensures.heard c.laws_of_steps.ensures.hearing the_language
+          takes O m.program m.config m.session m.reading m.waits m.started m.dropped m.told m.taken c.args.heard (is_started b) (is_dropped b) (told b) c.in_ok-self.field-0 c.in_ok-hear.ensures.stands.started c.in_ok-hear.ensures.heard c.laws_of_steps.ensures.hearing c.laws_of_steps.ensures.hearing_leads the_language
           c.in_ok-hear.ensures.stands.dropped e.reading c.max-self.result (e.waits + 1) r w (c.requires.settled c.if-self.false) (c.requires.active c.if-self.false) c.requires.of_calls c.in_ok-self.ensures;
       reading = c.max-self.ensures;
       waits = refl;

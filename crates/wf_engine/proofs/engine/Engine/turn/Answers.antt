@@ -104,7 +104,7 @@ returns-in_err-add g c =
       holds = search rules;
       adds = search rules;
       any_moment = λ O open_now told command handed D s.
-          let laws : Laws = record { again = c.one_spelling.ensures.again; chosen = c.laws_of_steps.ensures.chosen; turn = c.laws_of_steps.ensures.turn; moment = c.laws_of_steps.ensures.moment } in
+          let laws : Laws = record { again = c.one_spelling.ensures.again; chosen = c.laws_of_steps.ensures.chosen; turn = c.laws_of_steps.ensures.turn; moment = c.laws_of_steps.ensures.moment; turn_leads = c.laws_of_steps.ensures.turn_leads } in
           let chosen = λ (o : Option Taken). turn_of m.program m.config m.reading (taken_event m.reading o) in
           let is : Choice m es now.config = record { turn = turn.turn ∙ ap chosen c.take-taken.ensures.value; leads = turn.leads } in
           let some : 1 ≤ length es = omega (arith, c.count.ensures, c.if-count-eq0.false) in
@@ -136,7 +136,7 @@ returns g c =
     let now = state_of c.choose_turn.new.machine in
     let turn = c.in_ok-events.ensures in
     let es = events_view c.in_ok-events.events in
-    let laws : Laws = record { again = c.one_spelling.ensures.again; chosen = c.laws_of_steps.ensures.chosen; turn = c.laws_of_steps.ensures.turn; moment = c.laws_of_steps.ensures.moment } in
+    let laws : Laws = record { again = c.one_spelling.ensures.again; chosen = c.laws_of_steps.ensures.chosen; turn = c.laws_of_steps.ensures.turn; moment = c.laws_of_steps.ensures.moment; turn_leads = c.laws_of_steps.ensures.turn_leads } in
     let chosen = λ (o : Option Taken). turn_of m.program m.config m.reading (taken_event m.reading o) in
     let is : Choice m es now.config = record { turn = turn.turn ∙ ap chosen c.take-taken.ensures.value; leads = turn.leads } in
     let some : 1 ≤ length es = omega (arith, c.count.ensures, c.if-count-eq0.false) in
