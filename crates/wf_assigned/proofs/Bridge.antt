@@ -1,6 +1,6 @@
 -- The bits of a name are marks.
 use Rattle.std.specs.Int.{bit_at, bit_not, w64}
-use Rattle.std.specs.Prelude.{◌≡◌, ◌⊎◌, ℕ, zero, suc, ◌+◌, ◌-◌, ◌*◌, ◌/◌, ◌<◌, ◌≤◌, ◌^◌, min, Bool, true, false, not, ◌&&◌, List, [], ◌∷◌, ◌++◌, if◌then◌else◌, nat_eq, nat_lt, bit_and}
+use Rattle.std.specs.Prelude.{◌≡◌, ◌⊎◌, ℕ, zero, suc, ◌+◌, ◌-◌, ◌*◌, ◌/◌, ◌<◌, ◌≤◌, min, Bool, true, false, not, ◌&&◌, List, [], ◌∷◌, ◌++◌, if◌then◌else◌, nat_eq, nat_lt, bit_and}
 use Rattle.std.proofs.Common.{arith}
 use Rattle.std.proofs.lemmas.Bool.{eqb-true, eqb-false, true≢false}
 use Rattle.std.proofs.lemmas.Nat.{div-mul-add}
@@ -9,8 +9,8 @@ use mathlib.Core.Logic.{inl, inr}
 use mathlib.Core.Path.{refl, sym, subst, ap, ◌∙◌}
 use Rattle.wf_assigned.proofs.Exact.{lacks_step}
 use Rattle.wf_assigned.proofs.Ways.{AreWords, carried_bit}
-use Rattle.wf_assigned.specs.Law.{BitsAreMarks, HaveName, marks_of}
-use Rattle.wf_assigned.specs.Links.{index, place, link_of, edge_links, links_of, word_at, stopped_at, carried, settled_link, settled_links, IsLink, IsWay, IsSolved}
+use Rattle.wf_assigned.specs.Law.{BitsAreMarks, HaveName}
+use Rattle.wf_assigned.specs.Links.{index, place, link_of, edge_links, links_of, word_at, stopped_at, carried, settled_link, settled_links, IsLink, IsWay}
 use Rattle.wf_assigned.specs.Marks.{lacks, spares, Witness}
 use Rattle.wf_assigned.specs.Walks.{IsAmong, lasting}
 use Rattle.wf_assigned.specs.declared.links.Link.{Link}
@@ -18,7 +18,6 @@ use Rattle.wf_assigned.specs.declared.points.Edge.{Edge}
 use Rattle.wf_assigned.specs.declared.points.Point.{Point}
 use Rattle.wf_assigned.specs.declared.points.Point.TheVariants.{At, HeadOf, FailOf, EndOf}
 use Rattle.wf_lemmas.proofs.Bools.{and_left, and_right}
-use Rattle.wf_model.proofs.Walk.{bool_case}
 use Rattle.wf_value.specs.HttpRequest.{is_among}
 use Rattle.wf_value.specs.Pairs.{Text}
 

@@ -1,24 +1,24 @@
 -- A task that raises an error stands where a walk has come: the walk goes over the errors of each `try` outward.
-use Rattle.std.specs.Prelude.{◌≡◌, ◌⊎◌, ℕ, zero, suc, ◌≤◌, ◌<◌, T, not, Bool, true, false, ◌&&◌, ◌||◌, List, [], ◌∷◌, ◌++◌, ◌+◌, length, drop, if◌then◌else◌, nat_lt, nat_le, Some, None, Ok, Err, Option, bytes_eq}
+use Rattle.std.specs.Prelude.{◌≡◌, ◌⊎◌, ℕ, suc, ◌<◌, Bool, true, false, ◌&&◌, ◌||◌, List, [], ◌∷◌, ◌++◌, ◌+◌, length, drop, if◌then◌else◌, nat_lt, nat_le, Some, None, Ok, Err, Option, bytes_eq}
 use Rattle.std.proofs.Common.{arith}
 use Rattle.std.proofs.lemmas.Bool.{lt-ltb}
 use mathlib.Core.Logic.{inl, inr}
-use mathlib.Core.Path.{refl, sym, subst, ap, ◌∙◌}
+use mathlib.Core.Path.{refl, sym, subst}
 use Rattle.wf_ast.specs.Flows.{flow}
 use Rattle.wf_ast.specs.Nodes.{listed, param_names}
-use Rattle.wf_ast.specs.Tree.{Flow, Steps, no_steps, more, Policy, Param, TryBody, try, Except, no_except, except, Body}
-use Rattle.wf_assigned.proofs.Reached.{Grows, Written, goes_on, goes_along, arrives_at, leads_on, reach_drop, stands_drop, reach_grow}
-use Rattle.wf_assigned.proofs.Settled.{list_depth, list_fails, chain_mark, chain_call, size_is, fails_shallow, outside_mark, settles}
-use Rattle.wf_assigned.specs.Edges.{Point, At, HeadOf, FailOf, EndOf, Edge, Exit, Site, to_exit, to_some, failing, first_in, entering, evaluated, writing, ending, retrying, in_try, in_flow, in_except, body_edges, steps_edges, except_edges, try_edges, flow_edges}
+use Rattle.wf_ast.specs.Tree.{Flow, Steps, no_steps, more, Policy, Param, try, Except, no_except, except, Body}
+use Rattle.wf_assigned.proofs.Reached.{Written, goes_on, goes_along}
+use Rattle.wf_assigned.proofs.Settled.{list_depth, list_fails, size_is, fails_shallow, outside_mark, settles}
+use Rattle.wf_assigned.specs.Edges.{Point, At, FailOf, EndOf, Edge, Exit, Site, to_exit, to_some, failing, first_in, entering, evaluated, writing, ending, retrying, in_try, in_flow, in_except, body_edges, steps_edges, except_edges, try_edges, flow_edges}
 use Rattle.wf_assigned.specs.Standing
 use Rattle.wf_assigned.specs.Standing.{HasAll, chain, held, Covers, Reach, Arrives, Leads, StandsAt, Shallow, Proper, Sub, in_list, deeper, exit, Workflow, Bottom, Root, Pin, Pins, text_in, edges_in, entry_in, site, station, Ended, Pinned, Sized, outer_vars, StandsMoved}
 use Rattle.wf_assigned.specs.Walks.{IsAmong}
 use Rattle.wf_model.proofs.Walk.{bool_case}
 use Rattle.wf_model.specs.Config.{Layer, Item, Do, Entries, Then, Loop, Try, Judge, Mark, Back, Join, Awake, call_limit}
 use Rattle.wf_model.specs.Layers.{opened, enter}
-use Rattle.wf_model.specs.Local.{Outer, Local, Scene, Moved, leave, settle, ended, settled, goes}
+use Rattle.wf_model.specs.Local.{Local, Scene, Moved, leave, goes}
 use Rattle.wf_model.specs.Spots.{body_size, steps_size}
-use Rattle.wf_model.specs.Unwind.{calls_in, Judgement, Says, Asks, judgement, judged, retried, excepted, handled, called, asked_one, asks, decided, policy_of, unwind}
+use Rattle.wf_model.specs.Unwind.{calls_in, Judgement, Says, Asks, judged, retried, excepted, handled, called, asked_one, asks, decided, unwind}
 use Rattle.wf_never_wrong.specs.Places.{has, IsJudge}
 use Rattle.wf_value.specs.Data.{Data, Pairs}
 use Rattle.wf_value.specs.Errors.{error_map, Answer}

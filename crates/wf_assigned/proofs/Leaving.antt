@@ -1,24 +1,23 @@
 -- How a task goes on with a value, by a return and by a jump: it stands where a walk has come.
-use Rattle.std.specs.Prelude.{◌≡◌, ◌⊎◌, ℕ, zero, suc, ◌+◌, ◌≤◌, ◌<◌, T, not, Bool, true, false, ◌&&◌, ◌||◌, List, [], ◌∷◌, ◌++◌, length, drop, if◌then◌else◌, nat_lt, nat_le, Some, None, Ok, Err, Option, Result, codes, bytes_eq}
+use Rattle.std.specs.Prelude.{◌≡◌, ◌⊎◌, ℕ, suc, ◌+◌, Bool, true, false, List, [], ◌∷◌, drop, if◌then◌else◌, Some, None, Ok, Err, Option, Result, codes, bytes_eq}
 use Rattle.std.proofs.Common.{arith}
 use mathlib.Core.Logic.{inl, inr}
-use mathlib.Core.Path.{refl, sym, subst, ap, ◌∙◌}
+use mathlib.Core.Path.{refl, sym, subst, ◌∙◌}
 use Rattle.wf_ast.specs.Nodes.{listed}
-use Rattle.wf_ast.specs.Tree.{LoopBody, Step, step, Steps, no_steps, more, Policy, TryBody, try, Except, Body}
-use Rattle.wf_assigned.proofs.Failing.{sub_left, sub_right, sub_head, sub_tail, fails_from, try_fails, unwinds, decides, handles, tries_again, Binds}
+use Rattle.wf_ast.specs.Tree.{LoopBody, step, Steps, no_steps, more, Policy, try, Except, Body}
+use Rattle.wf_assigned.proofs.Failing.{sub_left, sub_right, sub_head, fails_from, try_fails, unwinds, handles, tries_again, Binds}
 use Rattle.wf_assigned.proofs.Growing.{GrownBy, grown_held, grown_chain, sized_grows, assign_grows, has_one}
-use Rattle.wf_assigned.proofs.Reached.{Grows, Written, goes_on, goes_along, arrives_at, leads_on}
-use Rattle.wf_assigned.proofs.Settled.{list_depth, list_fails, chain_mark, chain_call, size_is, shallow_up, outside_mark, settles}
-use Rattle.wf_assigned.specs.Edges.{Point, At, HeadOf, FailOf, EndOf, Edge, Exit, Site, Block, Looping, NoLoop, InLoop, InTurn, to_exit, to_some, failing, evaluated, writing, passing, number_in, step_exit, to_step, continues, breaks, jump, steps_edges, step_edges, first_in, flow_edges}
-use Rattle.wf_assigned.specs.Standing.{chain, held, Reach, Arrives, Leads, StandsAt, Shallow, Proper, Sub, in_list, exit, Bottom, Root, Pins, edges_in, entry_in, text_in, site, station, Ended, Pinned, Sized, HasPolicy, outer_vars, StandsMoved}
+use Rattle.wf_assigned.proofs.Reached.{Written, goes_on, goes_along, leads_on}
+use Rattle.wf_assigned.proofs.Settled.{list_depth, size_is, shallow_up, outside_mark, settles}
+use Rattle.wf_assigned.specs.Edges.{Point, At, FailOf, EndOf, Edge, Exit, Site, Looping, NoLoop, InLoop, InTurn, failing, evaluated, writing, passing, number_in, step_exit, to_step, continues, breaks, jump, steps_edges, step_edges, first_in, flow_edges}
+use Rattle.wf_assigned.specs.Standing.{chain, held, Reach, Leads, StandsAt, Shallow, Proper, Sub, in_list, exit, Bottom, Root, Pins, edges_in, entry_in, site, station, Ended, Pinned, Sized, outer_vars, StandsMoved}
 use Rattle.wf_assigned.specs.Walks.{IsAmong}
 use Rattle.wf_ast.specs.Tree.{Flow}
-use Rattle.wf_model.proofs.Walk.{bool_case}
 use Rattle.wf_model.specs.Config.{Layer, Left, Item, Do, Entries, Then, Loop, Try, Judge, Mark, Back, Join, Awake}
 use Rattle.wf_model.specs.Layers.{Assigned, Done, Refused, Undeclared, assign}
 use Rattle.wf_model.specs.Leave.{raises, on, on_assigned, gives, handed, given_to, returns_in, returned, returns, jumps, jumps_to}
 use Rattle.wf_model.specs.Leave as leave_by
-use Rattle.wf_model.specs.Local.{Outer, Local, Root as Kind, Main, Branch, Iteration, Scene, Moved, leave, goes}
+use Rattle.wf_model.specs.Local.{Local, Root as Kind, Main, Branch, Iteration, Scene, Moved, leave, goes}
 use Rattle.wf_model.specs.Spots.{body_size}
 use Rattle.wf_model.specs.Unwind.{Found, Stands, AtEnd, NotFound, answered, unwind, retried, cut_at, from_step, to_loop, to_back}
 use Rattle.wf_model.specs.Unwind as walk_by

@@ -1,5 +1,5 @@
 -- Each move of a task, each request, and each end of a wait leave it where a walk has come.
-use Rattle.std.specs.Prelude.{◌≡◌, ◌⊎◌, ℕ, zero, suc, ◌+◌, ◌≤◌, ◌<◌, T, not, Bool, true, false, ◌&&◌, ◌||◌, List, [], ◌∷◌, ◌++◌, length, drop, if◌then◌else◌, nat_lt, nat_le, Some, None, Ok, Err, Option, option_map, Result, codes, bytes_eq}
+use Rattle.std.specs.Prelude.{◌≡◌, ℕ, suc, ◌+◌, ◌≤◌, Bool, true, false, List, [], ◌∷◌, ◌++◌, length, if◌then◌else◌, nat_le, Some, None, Ok, Err, Option, option_map, Result, codes}
 use Rattle.std.proofs.Common.{arith}
 use Rattle.std.proofs.lemmas.Option.{same_Some}
 use Rattle.wf_lemmas.proofs.Options.{some_not_none}
@@ -8,26 +8,25 @@ use mathlib.Core.Path.{refl, sym, subst, ap, ◌∙◌}
 use Rattle.wf_ast.specs.Eval.{fill, eval_all, fill_fields, truth}
 use Rattle.wf_ast.specs.Flows.{flow}
 use Rattle.wf_ast.specs.Func.{in_order, Special, SysLog, SysSleep, SysSleepUntil, HttpCall, CreateEndpoint, AwaitCallback, Listing, SpecialListing, func_named, special_named, takes, call_takes}
-use Rattle.wf_ast.specs.Apply.{View, apply}
+use Rattle.wf_ast.specs.Apply.{apply}
 use Rattle.wf_ast.specs.Nodes.{listed, loop_binds, param_names}
-use Rattle.wf_ast.specs.Tree.{Template, Entry, Exprs, no_exprs, expr, CallBody, Param, LoopBody, loop, ParallelBody, parallel, Over, Work, OfBranches, OfLoop, Branches, branch, Step, step, Steps, no_steps, more, Policy, Arms, no_arms, arm, TryBody, try, Except, Body, Flow, unnamed}
-use Rattle.wf_assigned.proofs.Failing.{sub_left, sub_right, sub_head, sub_tail, in_left, in_right, fails_from, try_body, try_fails, enters, flow_steps, begins_flow, number_of, names_in, Binds}
+use Rattle.wf_ast.specs.Tree.{Template, Entry, Exprs, no_exprs, expr, CallBody, Param, LoopBody, loop, ParallelBody, parallel, Over, Work, OfBranches, OfLoop, Branches, branch, step, Steps, no_steps, more, Policy, Arms, no_arms, arm, try, Except, Body, Flow}
+use Rattle.wf_assigned.proofs.Failing.{sub_left, sub_right, sub_head, sub_tail, in_right, try_body, enters, flow_steps, begins_flow, number_of, names_in, Binds}
 use Rattle.wf_assigned.proofs.Leaving.{MayFail, raises_ok, on_ok, ends_ok, assigned_ok, gives_ok, handed_ok, returned_ok, jumps_ok}
-use Rattle.wf_assigned.proofs.Reached.{Written, goes_along, arrives_at, leads_on}
+use Rattle.wf_assigned.proofs.Reached.{Written, goes_along}
 use Rattle.wf_assigned.proofs.Settled.{list_depth, size_is, settles}
-use Rattle.wf_assigned.specs.Edges
-use Rattle.wf_assigned.specs.Edges.{Looping, Point, At, HeadOf, FailOf, EndOf, Edge, Exit, Site, to_exit, to_some, failing, evaluated, writing, passing, entering, plain_name, next_entry, entries_edges, ending, follow, jump, first_in, in_block, in_loop, in_try, steps_edges, step_edges, body_edges, arms_edges, loop_edges, parallel_edges, branches_edges, turn_edges, in_task, NoLoop, InTurn, try_edges, flow_edges}
+use Rattle.wf_assigned.specs.Edges.{Looping, Point, At, HeadOf, EndOf, Edge, Exit, Site, to_exit, to_some, failing, evaluated, writing, passing, entering, plain_name, next_entry, entries_edges, ending, jump, first_in, in_block, in_loop, in_try, steps_edges, step_edges, body_edges, arms_edges, loop_edges, parallel_edges, branches_edges, in_task, NoLoop, InTurn, try_edges, flow_edges}
 use Rattle.wf_assigned.specs.Standing
 use Rattle.wf_assigned.specs.Standing.{HasAll, chain, held, Reach, Arrives, Leads, StandsAt, Shallow, Proper, Sub, in_list, looped, deeper, exit, Bottom, Root, Pins, edges_in, entry_in, text_in, site, station, Ended, Pinned, Sized, outer_vars, StandsMoved, StandsLocal, Waiting, DelayedAt, LeftPinned, task_site, task_root, first_local}
 use Rattle.wf_assigned.specs.Walks.{IsAmong}
 use Rattle.wf_model.proofs.Walk.{bool_case}
 use Rattle.wf_model.specs.Calls
 use Rattle.wf_model.specs.Calls.{given, all_params, bindings, calls_with, evaluates, sleeps, logs, creates, awaits, awaits_callback, log_entry, within_log, sleep_due, until_due, callback_method, listening, endpoint_value, awaited, calls_special, calls_listed, calls_named, calls, sends, http_method, requests, fits_call, issues_call}
-use Rattle.wf_model.specs.Config.{Layer, Left, WorkLeft, BranchesLeft, ValuesLeft, counted_left, Item, Do, Entries, Then, Loop, Try, Judge, Mark, Back, Join, Wait, Awake, Sleep, Delay, Calling, Await, call_limit, next_of, is_empty, limits}
+use Rattle.wf_model.specs.Config.{Left, WorkLeft, BranchesLeft, ValuesLeft, counted_left, Item, Do, Entries, Then, Loop, Try, Judge, Mark, Back, Join, Wait, Awake, Sleep, Delay, Calling, Await, call_limit, next_of, is_empty, limits}
 use Rattle.wf_model.specs.Layers.{view, opened, enter, assign}
-use Rattle.wf_model.specs.Leave.{raises, on, on_assigned, gives, handed, returns, jumps}
+use Rattle.wf_model.specs.Leave.{raises, on, on_assigned, gives, returns, jumps}
 use Rattle.wf_model.specs.Local.{Outer, Local, Scene, Moved, Not, Does, Logs, Creates, goes, waits}
-use Rattle.wf_model.specs.Move.{then_item, lone, entered, assigns, chosen, arm_items, in_arm, over, work, forks, joins, raised, turns, loop_names, loop_steps, performs, steps_on, moves, move, issues, issue, awake, resumed, retries, timeout_error, due_by, due}
+use Rattle.wf_model.specs.Move.{then_item, lone, entered, assigns, chosen, arm_items, in_arm, over, work, joins, raised, turns, loop_names, performs, steps_on, moves, move, issues, issue, awake, resumed, retries, timeout_error, due_by, due}
 use Rattle.wf_model.specs.Spots.{body_size, steps_size}
 use Rattle.wf_model.specs.Unwind.{calls_in}
 use Rattle.wf_value.specs.Data.{Data, Pairs, null, no_pairs}

@@ -1,13 +1,12 @@
 -- No edge keeps a layer that isn't around its end.
-use Rattle.std.specs.Prelude.{◌≡◌, ◌⊎◌, ℕ, zero, suc, ◌+◌, ◌≤◌, List, [], ◌∷◌, ◌++◌, Some, None, Option}
+use Rattle.std.specs.Prelude.{ℕ, suc, ◌+◌, ◌≤◌, List, [], ◌∷◌, ◌++◌, Some, None, Option}
 use Rattle.std.proofs.Common.{arith}
 use mathlib.Core.Logic.{inl, inr}
-use mathlib.Core.Path.{refl, sym, subst, ap, ◌∙◌}
-use Rattle.wf_ast.specs.Nodes.{listed, loop_binds, param_names}
+use mathlib.Core.Path.{sym, subst}
+use Rattle.wf_ast.specs.Nodes.{loop_binds, param_names}
 use Rattle.wf_ast.specs.Tree.{Entry, Step, step, Steps, no_steps, more, Body, Arms, no_arms, arm, LoopBody, loop, ParallelBody, parallel, Work, OfBranches, OfLoop, Branches, no_branches, branch, TryBody, try, Except, no_except, except, Policy, Flow}
-use Rattle.wf_assigned.specs.Edges.{Point, At, HeadOf, FailOf, EndOf, Edge, Exit, Site, NoLoop, InTurn, to_exit, to_some, failing, evaluated, writing, passing, entering, plain_name, next_entry, entries_edges, ending, follow, jump, retrying, first_in, in_block, in_loop, in_task, in_except, in_try, in_flow, steps_edges, step_edges, body_edges, arms_edges, loop_edges, parallel_edges, work_edges, turn_edges, branches_edges, try_edges, except_edges, flow_edges}
+use Rattle.wf_assigned.specs.Edges.{Point, At, HeadOf, FailOf, EndOf, Edge, Exit, Site, NoLoop, InTurn, to_some, failing, evaluated, entering, entries_edges, ending, follow, retrying, first_in, in_block, in_loop, in_task, in_except, in_try, in_flow, steps_edges, step_edges, body_edges, arms_edges, loop_edges, parallel_edges, work_edges, turn_edges, branches_edges, try_edges, except_edges, flow_edges}
 use Rattle.wf_assigned.specs.Standing.{Proper}
-use Rattle.wf_assigned.specs.Walks.{IsAmong}
 use Rattle.wf_model.specs.Spots.{step_size, body_size, steps_size}
 use Rattle.wf_value.specs.Pairs.{Text}
 

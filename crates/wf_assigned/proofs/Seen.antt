@@ -1,23 +1,18 @@
 -- What is held is seen, and the laws of one task.
-use Rattle.std.specs.Prelude.{◌≡◌, ◌⊎◌, ℕ, zero, suc, ◌≤◌, ◌<◌, Bool, true, false, ◌&&◌, ◌||◌, T, List, [], ◌∷◌, length, if◌then◌else◌, nat_lt, Some, None, Ok, Err, Option, is_some, bytes_eq}
-use Rattle.std.proofs.Common.{arith}
+use Rattle.std.specs.Prelude.{◌≡◌, ◌⊎◌, ℕ, suc, Bool, true, false, ◌&&◌, ◌||◌, List, [], ◌∷◌, length, if◌then◌else◌, nat_lt, Some, None, Ok, Err, Option, is_some, bytes_eq}
 use mathlib.Core.Logic.{inl, inr}
 use mathlib.Core.Path.{refl, sym, subst, ap, ◌∙◌}
-use Rattle.wf_ast.specs.Nodes.{param_names}
-use Rattle.wf_ast.specs.Tree.{Flow}
 use Rattle.wf_assigned.proofs.Failing.{Binds, names_in, flow_steps, begins_flow}
 use Rattle.wf_assigned.proofs.Moving as moving
 use Rattle.wf_assigned.proofs.Moving.{move_stands, issue_stands, due_stands, resumed_stands}
 use Rattle.wf_assigned.proofs.Proper.{flows_proper}
 use Rattle.wf_assigned.proofs.Settled.{settles}
-use Rattle.wf_assigned.specs.Edges.{Point, Edge}
 use Rattle.wf_assigned.specs.TaskLaws.{SureIsSeen, MovesStand, WaitsStand, FlowBegins, BranchBegins, TurnBegins, OutersAreSeen}
-use Rattle.wf_assigned.specs.Standing.{HasAll, chain, held, Covers, Reach, Bottom, Root, flow_root, first_local, outer_vars, StandsMoved}
+use Rattle.wf_assigned.specs.Standing.{HasAll, chain, held, Covers, flow_root, first_local, outer_vars}
 use Rattle.wf_assigned.specs.Walks.{Write, lasting, has_write, Sure}
-use Rattle.wf_lemmas.proofs.Options.{by_cases}
-use Rattle.wf_model.specs.Config.{Layer, Do, Awake}
-use Rattle.wf_model.specs.Layers.{Held, Own, Outside, Nowhere, held_outside, held_in, value_of, view, opened, bound}
-use Rattle.wf_model.specs.Local.{Outer, Local, Scene, goes}
+use Rattle.wf_model.specs.Config.{Layer, Do}
+use Rattle.wf_model.specs.Layers.{Own, Outside, Nowhere, held_outside, held_in, value_of, view, opened}
+use Rattle.wf_model.specs.Local.{Outer, Scene}
 use Rattle.wf_model.specs.Taken.{outers}
 use Rattle.wf_never_wrong.proofs.Arguments.{Each, bound_binds}
 use Rattle.wf_never_wrong.proofs.Arguments as arguments

@@ -1,16 +1,14 @@
 -- A task that settles, and one that raises an error, stand where a walk has come.
-use Rattle.std.specs.Prelude.{◌≡◌, ◌⊎◌, ℕ, zero, suc, ◌≤◌, ◌<◌, T, not, Bool, true, false, ◌&&◌, ◌||◌, List, [], ◌∷◌, ◌++◌, length, drop, if◌then◌else◌, nat_lt, nat_le, Some, None, Option}
+use Rattle.std.specs.Prelude.{◌≡◌, ℕ, suc, ◌≤◌, T, not, Bool, true, false, List, [], ◌∷◌, length, drop, if◌then◌else◌, Some, None, Option}
 use Rattle.std.proofs.Common.{arith}
-use mathlib.Core.Logic.{inl, inr}
 use mathlib.Core.Path.{refl, sym, subst, ap, ◌∙◌}
 use Rattle.wf_ast.specs.Tree.{Flow, Steps, no_steps, more}
-use Rattle.wf_assigned.proofs.Reached.{Grows, Written, goes_on, goes_along, arrives_at, leads_on, reach_drop, stands_drop, reach_grow}
-use Rattle.wf_assigned.specs.Edges.{Point, At, HeadOf, FailOf, EndOf, Edge, Exit, Site, to_exit, to_some, failing, first_in, flow_edges}
+use Rattle.wf_assigned.proofs.Reached.{leads_on, stands_drop}
+use Rattle.wf_assigned.specs.Edges.{EndOf, Exit, Site, flow_edges}
 use Rattle.wf_assigned.specs.Standing
 use Rattle.wf_assigned.specs.Standing.{chain, held, Covers, Reach, Arrives, Leads, StandsAt, Shallow, Proper, Sub, in_list, exit, Bottom, Root, Pin, Pins, text_in, edges_in, entry_in, site, station, Ended, Pinned, Sized, outer_vars, StandsMoved}
-use Rattle.wf_assigned.specs.Walks.{IsAmong}
 use Rattle.wf_model.specs.Config.{Layer, Item, Do, Entries, Then, Loop, Try, Judge, Mark, Back, Join, Awake}
-use Rattle.wf_model.specs.Local.{Outer, Local, Scene, Moved, leave, settle, ended, settled, goes}
+use Rattle.wf_model.specs.Local.{Local, leave, goes}
 use Rattle.wf_value.specs.Data.{Pairs}
 
 -- ## Sizes

@@ -4,7 +4,7 @@
 -- A layer is told by how many layers stand around a point in its text, itself among them. A walk is inside at most one of each number.
 use Rattle.std.specs.Prelude.{ℕ, suc, ◌+◌, List, [], ◌∷◌, ◌++◌, if◌then◌else◌, Some, None, codes, bytes_eq, Option}
 use Rattle.wf_ast.specs.Nodes.{listed, loop_binds, param_names}
-use Rattle.wf_ast.specs.Tree.{Entry, no_exprs, Step, step, Steps, no_steps, more, Body, Arms, no_arms, arm, LoopBody, loop, ParallelBody, parallel, Work, OfBranches, OfLoop, Branches, no_branches, branch, TryBody, try, Except, no_except, except, Policy, Flow, Exprs, expr}
+use Rattle.wf_ast.specs.Tree.{Entry, no_exprs, Step, step, Steps, no_steps, more, Body, Arms, no_arms, arm, LoopBody, loop, ParallelBody, parallel, Work, OfBranches, OfLoop, Branches, no_branches, branch, TryBody, try, Except, no_except, except, Policy, Flow, expr}
 pub use Rattle.wf_assigned.specs.declared.points.Edge.{Edge}
 pub use Rattle.wf_assigned.specs.declared.points.Exit.{Exit}
 pub use Rattle.wf_assigned.specs.declared.points.Looping.{Looping}

@@ -4,10 +4,10 @@
 --     site         what stands around what is inside these items
 --     station      the point at which these items stand, when nothing is inside them any more
 --     Pinned       the items stand at their numbers
-use Rattle.std.specs.Prelude.{◌≡◌, ◌⊎◌, ℕ, zero, suc, ◌≤◌, ◌<◌, T, Bool, true, false, not, ◌&&◌, ◌||◌, List, [], ◌∷◌, ◌++◌, length, if◌then◌else◌, nat_lt, Some, None, Option}
+use Rattle.std.specs.Prelude.{◌≡◌, ◌⊎◌, ℕ, suc, ◌≤◌, T, Bool, true, false, not, ◌&&◌, ◌||◌, List, [], ◌∷◌, length, if◌then◌else◌, nat_lt, Some, None, Option}
 use Rattle.wf_ast.specs.Nodes.{listed}
 use Rattle.wf_ast.specs.Tree.{Steps, no_steps, more, Body, TryBody, try, Flow}
-use Rattle.wf_assigned.specs.Edges.{Point, At, HeadOf, FailOf, EndOf, Edge, Block, Looping, NoLoop, InLoop, continues, breaks, Exit, Site, to_exit, to_some, writing, failing, first_in, block_of, in_block, in_try, next_entry, entries_edges, evaluated, ending, steps_edges, body_edges, loop_edges, try_edges, parallel_edges, branches_edges, flow_edges}
+use Rattle.wf_assigned.specs.Edges.{Point, At, HeadOf, FailOf, EndOf, Edge, Looping, NoLoop, InLoop, continues, breaks, Exit, Site, to_exit, writing, first_in, in_block, in_try, next_entry, entries_edges, evaluated, ending, steps_edges, body_edges, loop_edges, try_edges, branches_edges, flow_edges}
 use Rattle.wf_assigned.specs.Walks.{IsAmong, IsWalk, Write, lasting}
 use Rattle.wf_model.specs.Config.{Layer, WorkLeft, BranchesLeft, ValuesLeft, Item, Do, Entries, Then, Loop, Try, Judge, Mark, Back, Join, Wait, Awake, Sleep, Delay, Calling, Await}
 use Rattle.wf_model.specs.Local.{Outer, Local, Moved, Goes, Ends, Does, Breaks, Not}

@@ -1,4 +1,4 @@
-use Rattle.std.proofs.Common.{List, ◌++◌, append-nil, sym, ap, ◌∙◌}
+use Rattle.std.proofs.Common.{◌++◌, append-nil, sym, ap, ◌∙◌}
 use Rattle.wf_assigned.proofs.Ways.{one_edge_more}
 use Rattle.wf_assigned.proofs.links.links_of.Goals as goal
 use Rattle.wf_assigned.specs.Links.{links_of}
