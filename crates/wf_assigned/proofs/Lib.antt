@@ -1,0 +1,11 @@
+mod Exact
+mod Ways
+mod Bridge
+mod Reached
+mod Settled
+mod Failing
+mod Growing
+mod Leaving
+mod Moving
+mod Proper
+mod Seen
