@@ -52,7 +52,7 @@ use Rattle.wf_several.proofs.Standing.{each_fits, none_is_parent, one_fact, rise
 use Rattle.wf_several.specs.Here.{IsHere, ReadsSo, around_here}
 use Rattle.wf_several.specs.Several.{AllGoOn, AreAlike, IsAlike, around_of, control_at, holder_of, holders_of, plain_around, task_view, tasks_view, with_join}
 use Rattle.wf_several.specs.Standing.{IsStanding}
-use Rattle.wf_stores.specs.Holders.{IsChildless, keys}
+use Rattle.wf_stores.specs.Holders.{IsChildless}
 use Rattle.wf_together.proofs.Childless.{moving_is_childless}
 use Rattle.wf_value.specs.Events.{Event}
 

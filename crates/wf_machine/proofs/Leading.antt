@@ -1,10 +1,9 @@
 -- Answers that can come, and calls that are awaited.
 use Rattle.std.proofs.Common.{◌≡◌, ◌≤◌, ℕ, false, refl, sym, ap, ◌∙◌, subst}
 use Rattle.std.proofs.Math.Logic.{∥∥₁_elim, ∥∥₁_map}
-use Rattle.wf_ast.specs.Accept.{Kind}
 use Rattle.wf_check.specs.Seen.{program_of}
 use Rattle.wf_machine.proofs.Good.{Good, good_of, goes_right, shows_it}
-use Rattle.wf_machine.specs.Seen.{shown, state_of}
+use Rattle.wf_machine.specs.Seen.{state_of}
 use Rattle.wf_machine.specs.declared.ending.Ending.TheVariants.{Running}
 use Rattle.wf_machine.specs.declared.machine.Machine.{Machine}
 use Rattle.wf_model.specs.Config.{Active, After, Config, NotNow, Open, To, Wrong}

@@ -3,7 +3,7 @@
 --     config_of     the configuration
 --     HasStood ..   where it stands
 use Rattle.std.specs.Prelude.{◌≡◌, ℕ, Bool, true, false, ◌&&◌, nat_eq, is_none, List, [], ◌∷◌, ◌++◌, None, Some, Option, is_some, option_map, slice_get}
-use Rattle.std.specs.Coded.{Coded-set, codes, coded_bool, ×_prop, Unit-prop, Π_prop, →_prop}
+use Rattle.std.specs.Coded.{Coded-set, codes, coded_bool, Π_prop, →_prop}
 use Rattle.wf_ast.specs.Flows.{flow}
 use Rattle.wf_ast.specs.Func.{SpecialListing, SysLog, func_named, special_named}
 use Rattle.wf_ast.specs.Tree.{Flow, Program}
@@ -36,7 +36,7 @@ use Rattle.wf_model.specs.Config as model
 use Rattle.wf_model.specs.Config.{Active, Call, Config, Do, Item, LogEntry, Open, Outcome, Raised, Returned, limits}
 use Rattle.wf_model.specs.Local.{Local, settle}
 use Rattle.wf_model.specs.Run.{main_local, main_steps}
-use Rattle.wf_moves.specs.Waits.{CanGoOn, CanGoOn-prop, control_in, is_awake_in, is_joining, task_local, wait_view}
+use Rattle.wf_moves.specs.Waits.{CanGoOn, control_in, is_awake_in, task_local}
 use Rattle.wf_moves.specs.declared.finish.End.{End}
 use Rattle.wf_moves.specs.declared.finish.End.TheVariants as end
 use Rattle.wf_moves.specs.declared.logging.Behind.{Behind}
@@ -54,8 +54,6 @@ use Rattle.wf_model.specs.declared.node.CallNode.{CallNode}
 use Rattle.wf_model.specs.declared.node.Node.{Node}
 use Rattle.wf_model.specs.declared.node.NodeKind.TheVariants as kind
 use Rattle.wf_model.specs.declared.node.TryNode.{TryNode}
-use Rattle.wf_scope.specs.Store.{layers_of}
-use Rattle.wf_frames.specs.Tasks.{own_layers}
 use Rattle.wf_scope.specs.declared.scopes.Scopes.{Scopes}
 use Rattle.wf_frames.specs.Built.{AreTargets, IsAsked, IsFunction, IsHttp, IsLog, IsNap, IsTarget, IsWorkflow, flow_part, function_parts, listed, nap_special}
 use Rattle.wf_frames.specs.declared.target.Nap.{Nap}

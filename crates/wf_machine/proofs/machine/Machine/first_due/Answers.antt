@@ -1,4 +1,4 @@
-use Rattle.std.proofs.Common.{◌≡◌, ◌<◌, ◌≤◌, ◌+◌, ℕ, suc, length, Some, refl, sym, ap, ◌∙◌, subst, arith}
+use Rattle.std.proofs.Common.{◌≡◌, ◌<◌, ◌≤◌, ◌+◌, ℕ, suc, length, sym, ap, ◌∙◌, subst, arith}
 use Rattle.std.specs.Prelude.{drop}
 use Rattle.wf_branches.specs.Seen.{table_of}
 use Rattle.wf_check.specs.Seen.{program_of}

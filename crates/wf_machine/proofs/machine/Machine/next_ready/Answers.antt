@@ -1,4 +1,4 @@
-use Rattle.std.proofs.Common.{◌≡◌, ◌<◌, ◌%◌, ℕ, true, None, Option, Some, sym, ap, ◌∙◌, subst, arith}
+use Rattle.std.proofs.Common.{◌≡◌, ◌<◌, ◌%◌, ℕ, true, None, Option, Some, sym, ◌∙◌, subst, arith}
 use Rattle.std.proofs.Math.Nat.{mod-le}
 use Rattle.std.specs.Prelude.{IfNone}
 use Rattle.wf_branches.specs.Seen.{table_of}

@@ -1,4 +1,4 @@
-use Rattle.std.proofs.Common.{◌≡◌, length, refl, sym, ◌∙◌, arith}
+use Rattle.std.proofs.Common.{refl, sym, ◌∙◌, arith}
 use Rattle.wf_machine.proofs.Good.{good_of, shows_it}
 use Rattle.wf_machine.proofs.Moves.{runs}
 use Rattle.wf_machine.proofs.Runs.{no_more_ended, no_more_many}
