@@ -1,7 +1,7 @@
 -- Edges that are laid one after another.
-use Rattle.std.proofs.Common.{◌≡◌, ℕ, suc, ◌+◌, Bool, List, [], ◌∷◌, ◌++◌, if◌then◌else◌, true, false, None, append_assoc, append-nil, refl, sym, ap, subst, ◌∙◌}
+use Rattle.std.proofs.Common.{◌≡◌, Bool, List, [], ◌∷◌, ◌++◌, if◌then◌else◌, true, false, None, append_assoc, append-nil, refl, sym, ap, subst, ◌∙◌}
 use Rattle.wf_assigned.specs.Edges.{Block as Around, Edge, number_in, step_exit, to_step}
-use Rattle.wf_assigned.specs.Laid.{Adds, Closes, Finds, Opens, Puts, behind, found_in}
+use Rattle.wf_assigned.specs.Laid.{Adds, Finds, Opens, Puts, behind, found_in}
 use Rattle.wf_assigned.specs.Numbers.{number_of}
 use Rattle.wf_assigned.specs.declared.blocks.Block.{Block}
 use Rattle.wf_assigned.specs.declared.edges.Walk.{Walk}

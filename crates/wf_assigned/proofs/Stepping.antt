@@ -1,5 +1,5 @@
 -- Edges of lists of steps, arms and branches, one item after another.
-use Rattle.std.proofs.Common.{◌≡◌, ℕ, zero, suc, ◌+◌, ◌<◌, ◌≤◌, List, [], ◌∷◌, ◌++◌, length, drop, get_or, map, append_assoc, Option, None, Some, true, false, arith, refl, sym, ap, subst, ◌∙◌}
+use Rattle.std.proofs.Common.{◌≡◌, ℕ, zero, suc, ◌+◌, ◌<◌, ◌≤◌, List, [], ◌∷◌, ◌++◌, length, drop, get_or, map, Option, Some, true, false, arith, refl, sym, ap, subst, ◌∙◌}
 use Rattle.std.proofs.lemmas.Bool.{eqb-true, true≢false}
 use Rattle.std.specs.Prelude.{◌==◌}
 use Rattle.wf_assigned.proofs.Laying.{AddsOn, adds_then, of_these, on_ends, on_next}
@@ -8,15 +8,11 @@ use Rattle.wf_assigned.specs.Edges.{Edge, Exit, Point, Site, At, EndOf, NoLoop}
 use Rattle.wf_assigned.specs.Laid.{Adds}
 use Rattle.wf_assigned.specs.declared.edges.Walk.{Walk}
 use Rattle.wf_ast.specs.Tree as t
-use Rattle.wf_ast.specs.View.{arm_view, body_view, branch_view, entry_view, step_view, steps_in, steps_view}
-use Rattle.wf_ast.specs.declared.body.Arm.{Arm}
-use Rattle.wf_ast.specs.declared.body.Branch.{Branch}
+use Rattle.wf_ast.specs.View.{entry_view, step_view, steps_in, steps_view}
 use Rattle.wf_ast.specs.declared.body.Step.{Step}
 use Rattle.wf_ast.specs.declared.body.StepList.{StepList}
 use Rattle.wf_ast.specs.declared.entry.Entry.{Entry}
 use Rattle.wf_lemmas.proofs.Lists.{drop_end, item_at}
-use Rattle.wf_lemmas.proofs.Numbers.{suc_moved}
-use Rattle.wf_model.specs.Spots.{body_size, steps_size}
 use Rattle.wf_table.proofs.Forms.{steps_are}
 use Rattle.wf_value.specs.Pairs.{Text}
 

@@ -3,7 +3,7 @@
 --     Adds       these edges more and no others
 --     Opens      a list of steps more, the innermost
 --     Closes     the innermost list of steps less
-use Rattle.std.specs.Prelude.{◌≡◌, Bool, List, [], ◌∷◌, ◌++◌, if◌then◌else◌, Option, None, Some}
+use Rattle.std.specs.Prelude.{◌≡◌, Bool, List, [], ◌∷◌, ◌++◌, if◌then◌else◌, Option, None}
 use Rattle.wf_assigned.specs.Edges.{Block as Around, Site, step_exit, to_step}
 use Rattle.wf_assigned.specs.Numbers.{number_of}
 use Rattle.wf_assigned.specs.declared.blocks.Block.{Block}

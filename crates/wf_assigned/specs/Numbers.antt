@@ -1,7 +1,7 @@
 -- Numbers by names.
 --     number_of     the number of a name
 --     or_named      the same, when a name has got a number
-use Rattle.std.specs.Prelude.{◌≡◌, ℕ, ◌<◌, Bool, false, ◌||◌, List, [], ◌∷◌, Option, None, Some, bytes_eq, nat_eq, if◌then◌else◌}
+use Rattle.std.specs.Prelude.{ℕ, Option, None, Some, bytes_eq, if◌then◌else◌}
 use Rattle.std.specs.BTreeMap.{get_by_text}
 use Rattle.wf_assigned.specs.declared.numbers.Numbers.{Numbers}
 use Rattle.wf_value.specs.Pairs.{Text}

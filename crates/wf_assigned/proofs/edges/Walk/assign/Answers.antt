@@ -1,4 +1,4 @@
-use Rattle.std.proofs.Common.{suc, ◌∷◌, map, ap, ◌∙◌}
+use Rattle.std.proofs.Common.{◌∷◌, map, ap, ◌∙◌}
 use Rattle.wf_assigned.proofs.Laying.{adds_then, of_these}
 use Rattle.wf_assigned.proofs.edges.Walk.assign.Goals as goal
 use Rattle.wf_assigned.specs.Edges.{At, entries_edges, next_entry, passing}

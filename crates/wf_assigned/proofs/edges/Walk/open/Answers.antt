@@ -1,4 +1,4 @@
-use Rattle.std.proofs.Common.{map, refl, ap, ◌∙◌}
+use Rattle.std.proofs.Common.{refl, ap, ◌∙◌}
 use Rattle.wf_assigned.proofs.Laying.{opens}
 use Rattle.wf_assigned.proofs.edges.Walk.open.Goals as goal
 use Rattle.wf_assigned.specs.Edges.{block_of, number_in}

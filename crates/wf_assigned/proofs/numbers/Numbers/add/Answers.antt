@@ -4,7 +4,6 @@ use Rattle.std.proofs.lemmas.Slice.Eq.{bytes_eq-Decides}
 use Rattle.std.specs.Bool.{one_answer}
 use Rattle.wf_assigned.proofs.numbers.Numbers.add.Goals as goal
 use Rattle.wf_assigned.specs.Numbers.{number_of, or_named}
-use Rattle.wf_assigned.specs.declared.numbers.Numbers.{Numbers}
 use Rattle.wf_value.specs.Pairs.{Text}
 
 either_way : (x y : Text) → bytes_eq x y ≡ bytes_eq y x
