@@ -1,6 +1,9 @@
 mod Exact
 mod Ways
 mod Bridge
+mod Laying
+mod Counting
+mod Stepping
 mod Reached
 mod Settled
 mod Failing

@@ -1,7 +1,9 @@
 pub mod Edges
+pub mod Laid
 pub mod Law
 pub mod Links
 pub mod Marks
+pub mod Numbers
 pub mod Standing
 pub mod TaskLaws
 pub mod Walks
