@@ -5,7 +5,7 @@ use Rattle.std.specs.Prelude.{IsErrOf, codes, decimal}
 use Rattle.std.proofs.lemmas.List.{append-nil}
 use Rattle.wf_lemmas.proofs.Options.{same_some}
 use Rattle.wf_ast.specs.Tree.{Program}
-use Rattle.wf_cli.proofs.Causes.{same_ok, same_err, both, not_both, executing, executes_line, not_both_journals, no_argument, good_argument, argument_line, one_command, reported_line, none_found, none_needed}
+use Rattle.wf_cli.proofs.Causes.{same_ok, same_err, both, not_both, executes_line, not_both_journals, no_argument, good_argument, argument_line, one_command, reported_line, none_found, none_needed}
 use Rattle.wf_cli.proofs.Deeds.{polls_both, printed_both, small_polls}
 use Rattle.wf_cli.proofs.Safe.{of_command, IsPlainEnd, plain_end, still_end}
 use Rattle.wf_cli.proofs.Together.{where_told, same_bytes}
